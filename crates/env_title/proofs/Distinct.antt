@@ -1,4 +1,4 @@
--- Names stay distinct where a variable is taken away or put.
+-- Names stay distinct when a variable is removed or put.
 use Rattle.std.proofs.Common.{◌≡◌, ℕ, Bool, true, false, cond, List, [], ◌∷◌, ◌++◌, refl}
 use Rattle.std.specs.Prelude.{not, filter, bytes_eq}
 use Rattle.std.specs.List.{IsDistinct, AllByRecursion}
@@ -36,7 +36,7 @@ distinct_push e [] y distinct apart = (tt, tt)
 distinct_push e (x ∷ xs) y distinct apart =
     (all_push (λ z. e x z ≡ false) xs y distinct.0 apart.0, distinct_push e xs y distinct.1 apart.1)
 
--- no variable is left that has the name
+-- no variable with the name is left
 all_without : (env : List Binding) (name : List ℕ)
     → AllByRecursion (λ variable. bytes_eq variable.name name ≡ false) (without env name)
 all_without [] name = tt

@@ -8,7 +8,7 @@ use Rattle.env_title.specs.Faults.{has_equals, fault_at, faults_from, first_faul
 use Rattle.env_title.specs.declared.fault.EnvFault.{EnvFault}
 use Rattle.env_title.specs.declared.fault.EnvFault.TheVariants.{NameHasEquals, NotText, OutOfMemory}
 
--- what is wrong with a file whose name is good
+-- the fault of a file with a good name
 pub fault_at-named : (place : ℕ) (file : File) → is_hidden file ≡ false → has_equals file.name ≡ false
     → fault_at place file ≡ (if is_utf8 (file_value file.bytes) then None else Some (NotText place))
 fault_at-named place file visible named = rw (visible, named) refl
@@ -21,20 +21,20 @@ pub first-bad : (place : ℕ) (file : File) (files : List File) (fault : EnvFaul
     → slice_get (faults_from place (file ∷ files)) 0 ≡ Some fault
 first-bad place file files fault bad = rw bad refl
 
--- a fault that is reported is the file's
+-- the fault that is reported is the file's
 pub reported : (o : Option EnvFault) (r : Result (Unit {0}) EnvFault) (fault : EnvFault)
     → MatchOption o (IsOk r) (λ f. r ≡ Err f) → r ≡ Err fault → o ≡ Some fault
 reported None r fault good is = let never = rw is at good in cc
 reported (Some f) r fault bad is = cc
 
--- what is reported as an error is what is wrong
+-- the error that is returned is the fault
 pub reported_err : (o : Option EnvFault) (r : Result (Unit {0}) EnvFault) → MatchOption o (IsOk r) (λ f. r ≡ Err f)
     → result_err r ≡ o
 reported_err None (Ok x) h = refl
 reported_err None (Err f) h = cc h
 reported_err (Some f) r h = rw h refl
 
--- No file is at fault for want of memory.
+-- No file's fault is a lack of memory.
 never_at : (place : ℕ) (file : File) (b c d : Bool) → (if b then None else (if c then Some (NameHasEquals place)
     else (if d then None else Some (NotText place)))) ≡ Some OutOfMemory → ⊥
 never_at place file true c d h = cc h
@@ -56,7 +56,7 @@ never_from place (file ∷ files) h =
 pub never_memory : (files : List File) → first_fault files ≡ Some OutOfMemory → ⊥
 never_memory files h = never_from 0 files h
 
--- where the first fault is none, the first file has none, and the others have none
+-- if there is no first fault, neither the first file nor the others have one
 pub none_parts : (place : ℕ) (file : File) (files : List File) → slice_get (faults_from place (file ∷ files)) 0 ≡ None
     → (fault_at place file ≡ None) × (slice_get (faults_from (place + 1) files) 0 ≡ None)
 none_parts place file files none =

@@ -11,7 +11,7 @@ use Rattle.env_title.proofs.First.{nul-none, nul-some}
 abbrev pub title_of : List ℕ → ℕ → TitleParts
 title_of items len = record { items = items; len = len }
 
--- What was given up before is not missed.
+-- Items that were dropped before make no difference.
 pub keep_last-append : (n : ℕ) (xs ys : List ℕ) → keep_last n (keep_last n xs ++ ys) ≡ keep_last n (xs ++ ys)
 keep_last-append n xs ys =
     let out = length xs - n in
@@ -24,7 +24,7 @@ keep_last-append n xs ys =
 pub keep_last-short : (n : ℕ) (xs : List ℕ) → length xs ≤ n → keep_last n xs ≡ xs
 keep_last-short n xs short = let none : length xs - n ≡ 0 = omega arith in ap (λ k. drop k xs) none
 
--- one more dot where there is room
+-- one more dot, if there is room
 pub dots-more : (n k : ℕ) → k < n → keep_last n (replicate k dot ++ dot ∷ []) ≡ replicate (k + 1) dot
 dots-more n k room =
     let more = replicate-append-replicate k 1 dot in
@@ -33,7 +33,7 @@ dots-more n k room =
 pub length-keep_last : (n : ℕ) (xs : List ℕ) → n ≤ length xs → length (keep_last n xs) ≡ n
 length-keep_last n xs long = omega (arith, length-drop (length xs - n) xs)
 
--- A run before a NUL is shown, and the NUL is passed over.
+-- A run of bytes before a NUL is shown, and the NUL is ignored.
 pub run-shown : (n : ℕ) (items start rest all : List ℕ) (at : ℕ) → at < length rest → Passes (is_byte 0) rest at
     → Nowhere (Passes (is_byte 0) rest) 0 at
     → keep_last n (items ++ without_nul rest) ≡ keep_last n (start ++ without_nul all)

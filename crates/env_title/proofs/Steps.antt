@@ -9,14 +9,14 @@ use Rattle.env_title.specs.Env.{Binding, binding, without, put}
 use Rattle.env_title.specs.Files.{File, is_hidden, is_empty, file_value, has_file, last_of_each_name, env_after}
 use Rattle.env_title.specs.Files.{after_file}
 
--- the file at a place, and those behind it
+-- the file at a place, and those after it
 pub file_and_rest : (files : List File) (i : ℕ) (file : File) → i < length files → file ≡ get_or files i file
     → drop i files ≡ file ∷ drop (i + 1) files
 file_and_rest files i file within is =
     let next : suc i ≡ i + 1 = omega arith in
     drop-cons files i file within ∙ ap (λ f. f ∷ drop (suc i) files) (sym is) ∙ ap (λ k. file ∷ drop k files) next
 
--- two names that the test takes for one
+-- two names that pass the test are equal
 pub same : (xs ys : List ℕ) → bytes_eq xs ys ≡ true → xs ≡ ys
 same xs ys e = (bytes_eq-Decides xs ys).0 e
 
@@ -35,11 +35,11 @@ has_last (file ∷ later) name =
       | false ↦ λ _. ap (λ b. bytes_eq name file.name || b) (has_last later name)
     ] refl
 
--- the variables that the files which count leave
+-- the variables that the counting files leave
 abbrev left_by : List File → List Binding → List Binding
 left_by counted env = filter (λ variable. not (has_file counted variable.name)) env
 
--- a variable that a later file takes away need not be taken away before
+-- a variable that a later file removes need not be removed before
 left_by-without : (counted : List File) (env : List Binding) (name : List ℕ) → has_file counted name ≡ true
     → left_by counted (without env name) ≡ left_by counted env
 left_by-without counted [] name again = refl
@@ -56,7 +56,7 @@ left_by-without counted (variable ∷ env) name again =
           (left_by-without counted env name again)
     ] refl
 
--- else it is taken away by its own file
+-- otherwise its own file removes it
 left_by-cons : (file : File) (counted : List File) (env : List Binding)
     → left_by counted (without env file.name) ≡ left_by (file ∷ counted) env
 left_by-cons file counted [] = refl
@@ -74,7 +74,7 @@ left_by-cons file counted (variable ∷ env) =
 abbrev sets : List File → List Binding
 sets counted = map (λ file. binding file.name (file_value file.bytes)) (filter (λ file. not (is_empty file)) counted)
 
--- A file before others that have its name does nothing.
+-- A file before others of its name does nothing.
 step_again : (counted : List File) (env : List Binding) (file : File) → has_file counted file.name ≡ true
     → left_by counted (after_file env file) ≡ left_by counted env
 step_again counted env file again =
@@ -89,7 +89,7 @@ step_again counted env file again =
           ∙ left_by-without counted env file.name again)
     ]
 
--- A file that counts sets its variable in front of those of the later ones.
+-- A file that counts sets its variable, which comes before those of the later files.
 step_last : (counted : List File) (env : List Binding) (file : File) → has_file counted file.name ≡ false
     → left_by counted (after_file env file) ++ sets counted ≡ left_by (file ∷ counted) env ++ sets (file ∷ counted)
 step_last counted env file last =

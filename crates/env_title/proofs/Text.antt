@@ -1,4 +1,4 @@
--- To make each NUL a newline changes nothing in whether bytes are UTF-8.
+-- A newline for each NUL does not change whether bytes are UTF-8.
 use Rattle.std.proofs.Common.{◌≡◌, ℕ, zero, suc, add-one, lit<, ◌∙◌, ◌+◌, ◌<◌, ◌==◌, true, false, cond, List, [], ◌∷◌}
 use Rattle.std.proofs.Common.{◌++◌, length, get_or, take, drop, refl, sym, subst, ap, arith, ◌⊎◌, inl, inr}
 use Rattle.std.proofs.Common.{append_assoc, length-append, take_at}

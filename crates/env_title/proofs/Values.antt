@@ -59,7 +59,7 @@ not_last (variable ∷ env) last name other =
       | false ↦ not_last env last name other
     ]
 
--- a file decides the value of its name
+-- a file decides the value of its own name
 own_value : (env : List Binding) (file : File) (name : List ℕ) → bytes_eq file.name name ≡ true
     → value_of (after_file env file) name ≡ value_by (Some file) (value_of env name)
 own_value env file name is =
@@ -73,7 +73,7 @@ own_value env file name is =
       | false ↦ found_last (without env file.name) (binding file.name (file_value file.bytes)) name gone is
     ]
 
--- and no other
+-- a file decides the value of no other name
 other_value : (env : List Binding) (file : File) (name : List ℕ) → bytes_eq file.name name ≡ false
     → value_of (after_file env file) name ≡ value_of env name
 other_value env file name other =
@@ -84,7 +84,7 @@ other_value env file name other =
           ∙ other_without env file.name name other
     ]
 
--- Where there is a file, it does not matter what was before.
+-- If there is a file, the value before it makes no difference.
 settled : (files : List File) (file : File) (one two : Option (List ℕ))
     → value_by (last_or (Some file) files) one ≡ value_by (last_or (Some file) files) two
 settled [] file one two = refl

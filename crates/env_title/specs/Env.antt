@@ -13,22 +13,22 @@ binding name value = record { name = name; value = value }
 abbrev pub is_named : List ℕ → Binding → Bool
 is_named name variable = bytes_eq variable.name name
 
--- No name stands twice.
+-- No name occurs twice.
 abbrev pub HasDistinctNames : List Binding → Type 0
 HasDistinctNames env = IsDistinct (λ one other. bytes_eq one.name other.name) env
 
--- the value of the variable of this name
+-- the value of the variable with this name
 abbrev pub value_of : List Binding → List ℕ → Option (List ℕ)
 value_of env name = option_map (λ variable. variable.value) (find (is_named name) env)
 
--- whether there is a variable of this name
+-- whether there is a variable with this name
 abbrev pub has_name : List Binding → List ℕ → Bool
 has_name env name = list_any (is_named name) env
 
--- the variables without the one of this name
+-- the variables without the one with this name
 abbrev pub without : List Binding → List ℕ → List Binding
 without env name = filter (λ variable. not (is_named name variable)) env
 
--- the variables with this one last, in the place of the one of its name
+-- the variables with this one last, which replaces any other with its name
 abbrev pub put : List Binding → List ℕ → List ℕ → List Binding
 put env name value = without env name ++ binding name value ∷ []

@@ -1,4 +1,4 @@
--- Which file of a folder cannot be applied.
+-- The file of a folder that cannot be applied.
 use Rattle.std.specs.Prelude.{List, ℕ, Bool, ◌==◌, if◌then◌else◌, Option, Some, None, slice_get}
 use Rattle.std.specs.List.{list_any, filter_map, enumerate_from}
 use Rattle.std.specs.Str.{is_utf8}
@@ -9,7 +9,7 @@ use Rattle.env_title.specs.declared.fault.EnvFault.TheVariants.{NameHasEquals, N
 abbrev pub has_equals : List ℕ → Bool
 has_equals name = list_any (λ byte. byte == 61) name
 
--- what is wrong with the file at a place: its name before its bytes, and nothing where the name begins with a dot
+-- the fault of the file at a place: its name comes before its bytes, and a name that begins with a dot has no fault
 abbrev pub fault_at : ℕ → File → Option EnvFault
 fault_at place file =
     if is_hidden file then None
@@ -17,7 +17,7 @@ fault_at place file =
     else (if is_utf8 (file_value file.bytes) then None
     else Some (NotText place)))
 
--- the faults of files that stand at these places and further
+-- the faults of files that begin at this place
 abbrev pub faults_from : ℕ → List File → List EnvFault
 faults_from place files = filter_map (λ at. fault_at at.0 at.1) (enumerate_from place files)
 

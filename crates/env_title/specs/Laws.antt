@@ -1,5 +1,5 @@
--- What an environment after files and a title after pushes are, said in other words. Each law is the contract of a
--- function in `src/laws.rt`.
+-- Facts about an environment after files and a title after pushes. Each law is the contract of a function in
+-- `src/laws.rt`.
 use Rattle.std.specs.Prelude.{◌≡◌, ℕ, ◌-◌, ◌≤◌, List, [], ◌∷◌, ◌++◌, not, ◌&&◌, if◌then◌else◌, length, filter, fold}
 use Rattle.std.specs.Prelude.{bytes_eq, replicate, Option, Some, None}
 use Rattle.std.specs.List.{last_or}
@@ -12,22 +12,22 @@ use Rattle.env_title.specs.Title.{TitleParts, dot, dots, new_title, pushed, titl
 abbrev pub last_file : List File → List ℕ → Option File
 last_file files name = last_or None (filter (λ file. not (is_hidden file) && bytes_eq file.name name) files)
 
--- what that file makes of the value: no file leaves it, a file of 0 bytes takes it away, any other sets it
+-- what that file makes of the value: without a file it stays, a file with 0 bytes removes it, any other file sets it
 abbrev pub value_by : Option File → Option (List ℕ) → Option (List ℕ)
 value_by None before = before
 value_by (Some file) before = if is_empty file then None else Some (file_value file.bytes)
 
--- Of each name the last file decides the value.
+-- The last file of each name decides its value.
 abbrev pub LastFileDecides : Type 0
 LastFileDecides = (files : List File) (env : List Binding) (name : List ℕ)
     → value_of (env_after files env) name ≡ value_by (last_file files name) (value_of env name)
 
--- The files of two folders, one after another, do what all of them do.
+-- Applying the files of two folders, one after the other, is the same as applying all of them.
 abbrev pub FoldersFollow : Type 0
 FoldersFollow = (files more : List File) (env : List Binding)
     → env_after (files ++ more) env ≡ env_after more (env_after files env)
 
--- No name comes to stand twice.
+-- If no name occurs twice before, none does afterwards.
 abbrev pub NamesStayDistinct : Type 0
 NamesStayDistinct =
     (files : List File) (env : List Binding) → HasDistinctNames env → HasDistinctNames (env_after files env)
@@ -36,13 +36,13 @@ NamesStayDistinct =
 abbrev pub pushed_one_by_one : TitleParts → List ℕ → TitleParts
 pushed_one_by_one title bytes = fold (λ before byte. pushed before (byte ∷ [])) title bytes
 
--- The text of a new title after any bytes are pushed.
+-- The text of a new title after any bytes were pushed.
 abbrev pub ShowsLastBytes : Type 0
 ShowsLastBytes = (len : ℕ) (bytes : List ℕ)
     → title_text (pushed_one_by_one (new_title len) bytes)
     ≡ dots ++ keep_last (len - 3) (replicate (len - 3) dot ++ without_nul bytes)
 
--- It makes no difference where the pushed bytes are cut into blocks.
+-- It makes no difference how the pushed bytes are cut into blocks.
 abbrev pub BlocksJoin : Type 0
 BlocksJoin =
     (title : TitleParts) (bytes more : List ℕ) → pushed (pushed title bytes) more ≡ pushed title (bytes ++ more)

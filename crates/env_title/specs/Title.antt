@@ -9,7 +9,7 @@ dot = 46
 abbrev pub dots : List ℕ
 dots = replicate 3 dot
 
--- the bytes after the three dots, and how long the title is with these
+-- the bytes after the three dots, and the length of the title with the dots
 pub record TitleParts : Type 0 where
   pub items : List ℕ
   pub len : ℕ
@@ -22,7 +22,7 @@ new_title len = record { items = replicate (len - 3) dot; len = len }
 abbrev pub without_nul : List ℕ → List ℕ
 without_nul bytes = filter (λ byte. not (byte == 0)) bytes
 
--- the title after these bytes are pushed: the last that fit of its items followed by the bytes that are not NUL
+-- the title after these bytes are pushed: the last of its items followed by the bytes that are not NUL, as many as fit
 abbrev pub pushed : TitleParts → List ℕ → TitleParts
 pushed title bytes = record { items = keep_last (title.len - 3) (title.items ++ without_nul bytes); len = title.len }
 

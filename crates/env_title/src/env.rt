@@ -4,7 +4,7 @@ ghost use Rattle.env_title.specs.Env.{HasDistinctNames, value_of, without, put};
 use std::alloc::{AllocError, Allocator, Global};
 use std::marker::Model;
 
-/// An environment variable. Contracts see the bytes of its name and its value.
+/// An environment variable. Contracts see the bytes of its name and of its value.
 #[derive(Debug, Drop)]
 pub struct Variable<A: Allocator = Global> {
     name: String<A>,
@@ -21,14 +21,14 @@ impl<A: Allocator> Model for Variable<A> {
 }
 
 impl<A: Allocator> Variable<A> {
-    /// The name.
+    /// Returns the name.
     pub fn name(&self) -> &str
         ensures { result.now ≡ self.now.name }
     {
         self.name.as_str()
     }
 
-    /// The value.
+    /// Returns the value.
     pub fn value(&self) -> &str
         ensures { result.now ≡ self.now.value }
     {
@@ -37,7 +37,7 @@ impl<A: Allocator> Variable<A> {
 }
 
 impl<A: Allocator + Clone> Variable<A> {
-    /// The same name and value, in memory of this allocator.
+    /// Copies the variable into memory of this allocator.
     fn copy(&self, alloc: &A) -> Result<Variable<A>, AllocError>
         ensures { IfOk result (λ copy. copy ≡ self.now) }
     {
@@ -48,7 +48,7 @@ impl<A: Allocator + Clone> Variable<A> {
     }
 }
 
-/// Environment variables, no two of one name. Contracts see them as a list.
+/// Environment variables, with no name twice. Contracts see them as a list.
 #[derive(Debug, Drop)]
 pub struct Env<A: Allocator = Global> {
     variables: Vec<Variable<A>, A>,
@@ -66,7 +66,7 @@ impl<A: Allocator> Model for Env<A> {
 }
 
 impl<A: Allocator + Clone> Env<A> {
-    /// The same variables, in memory of this allocator. Of no variables it takes none.
+    /// Copies the variables into memory of this allocator. An empty environment needs no memory.
     pub(crate) fn copy(&self, alloc: A) -> Result<Env<A>, AllocError>
         ensures ok { IfOk result (λ copy. copy ≡ self.now) }
         ensures memory { IsErr result → 0 < length self.now }
@@ -81,7 +81,7 @@ impl<A: Allocator + Clone> Env<A> {
 }
 
 impl<A: Allocator> Env<A> {
-    /// No variables. It takes no memory.
+    /// Returns an environment with no variables. Needs no memory.
     pub fn new(alloc: A) -> Env<A>
         ensures { result ≡ [] }
     {
@@ -90,12 +90,12 @@ impl<A: Allocator> Env<A> {
         }
     }
 
-    /// The allocator of its memory.
+    /// Returns the allocator of its memory.
     pub(crate) fn allocator(&self) -> &A {
         self.variables.allocator()
     }
 
-    /// The variables, in order.
+    /// Returns the variables, in order.
     pub fn as_slice(&self) -> &[Variable<A>]
         ensures variables { result.now ≡ self.now }
         ensures distinct { HasDistinctNames self.now }
@@ -103,21 +103,21 @@ impl<A: Allocator> Env<A> {
         self.variables.as_slice()
     }
 
-    /// How many variables there are.
+    /// Returns how many variables there are.
     pub fn len(&self) -> usize
         ensures { result ≡ length self.now }
     {
         self.variables.len()
     }
 
-    /// Whether there are no variables.
+    /// Returns whether there are no variables.
     pub fn is_empty(&self) -> bool
         ensures { result ≡ (length self.now == 0) }
     {
         self.variables.is_empty()
     }
 
-    /// The value of the variable of this name.
+    /// Returns the value of the variable with this name.
     pub fn get(&self, name: &str) -> Option<&str>
         ensures { option_copied result ≡ value_of self.now name.now }
     {
@@ -128,14 +128,14 @@ impl<A: Allocator> Env<A> {
         Some(variable.value())
     }
 
-    /// Takes the variable of this name away, if there is one. It takes no memory.
+    /// Removes the variable with this name, if there is one. Needs no memory.
     pub fn remove(&mut self, name: &str)
         ensures { self.new ≡ without self.old name.now }
     {
         self.variables.retain(|variable| variable.name() != name);
     }
 
-    /// Sets a variable: it becomes the last one, in the place of the one of this name. On `Err` nothing has changed.
+    /// Sets a variable: it becomes the last one, and replaces any other with its name. On `Err` nothing has changed.
     pub fn put(&mut self, name: String<A>, value: String<A>) -> Result<(), AllocError>
         ensures ok { OnOk result (self.new ≡ put self.old (string_bytes name) (string_bytes value)) }
         ensures err { OnErr result (self.new ≡ self.old) }

@@ -1,9 +1,9 @@
 use thiserror::Error;
 
-/// Why files make no environment. Places count from 0.
+/// Why files make no environment. Places are counted from 0.
 #[derive(Clone, Copy, Debug, PartialEq, Eq, Error)]
 pub enum EnvFault {
-    /// The name of the file at this place has a `=`.
+    /// The name of the file at this place contains `=`.
     #[error("NameHasEquals")]
     NameHasEquals(usize),
 
@@ -11,7 +11,7 @@ pub enum EnvFault {
     #[error("NotText")]
     NotText(usize),
 
-    /// The allocator refused the memory for the variables.
+    /// The allocator refused memory for the variables.
     #[error("OutOfMemory")]
     OutOfMemory,
 }

@@ -7,7 +7,7 @@ use crate::value::text_of;
 use std::marker::Model;
 use std::str;
 
-/// A file of the folder. Contracts see the bytes of its name and its bytes.
+/// A file of the folder. Contracts see the bytes of its name and its content.
 #[derive(Debug, Drop)]
 pub struct EnvFile<'a> {
     /// The name of the file, which is the name of the variable.
@@ -25,21 +25,21 @@ impl<'a> Model for EnvFile<'a> {
 }
 
 impl EnvFile<'_> {
-    /// Whether the name begins with a dot.
+    /// Returns whether the name begins with a dot.
     pub(crate) fn is_hidden(&self) -> bool
         ensures { result ≡ is_hidden self.now }
     {
         matches!(self.name.as_bytes(), [b'.', ..])
     }
 
-    /// What is wrong with the file, which stands at this place, if anything. It takes no memory.
+    /// Returns the fault of the file at this place, if it has one. Needs no memory.
     pub fn fault(&self, place: usize) -> Option<EnvFault>
         ensures { result ≡ fault_at place self.now }
     {
         self.check(place).err()
     }
 
-    // Says what is wrong with the file, which stands at this place.
+    // Returns an error if the file at this place has a fault.
     pub(crate) fn check(&self, place: usize) -> Result<(), EnvFault>
         ensures { MatchOption (fault_at place self.now) (IsOk result) (λ fault. result ≡ Err fault) }
     {

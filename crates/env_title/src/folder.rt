@@ -10,18 +10,18 @@ use crate::file::EnvFile;
 use crate::value::file_value;
 use std::alloc::{AllocError, Allocator};
 
-/// The environment after the files of a folder, in the order given, as the envdir page
-/// (<https://cr.yp.to/daemontools/envdir.html>) has it.
+/// Returns the environment after the files of a folder, in the order given, as the envdir page
+/// (<https://cr.yp.to/daemontools/envdir.html>) describes it.
 ///
-/// A file whose name begins with a dot is passed over. Of the others the last of each name counts. The variables whose
-/// names have no such file stay, in their order, and behind them come those of the files that count, in the order of
-/// these. A file of 0 bytes removes its variable. Else the value is the first line of the file, without the spaces and
-/// tabs at its end, and with each NUL made a newline.
+/// A file with a name that begins with a dot is ignored. Among the others, the last file of each name counts. Variables
+/// without a counting file of their name stay, in their order. After them come the variables of the files that count,
+/// in the order of the files. A file with 0 bytes removes its variable. For any other file, the value is its first
+/// line, without the spaces and tabs at its end, and with a newline for each NUL.
 ///
-/// The first file that cannot be applied is reported, also where there is no memory: a `=` in its name is
-/// `NameHasEquals`, also where the file has 0 bytes, and a value that is not UTF-8 is `NotText`, also where a later
-/// file of that name counts. Else `OutOfMemory` comes only where the allocator refuses the memory for the variables. No
-/// variable and no file take none.
+/// The first file that cannot be applied is reported, even if there is no memory. `NameHasEquals` is returned if its
+/// name contains `=`, even if the file has 0 bytes. `NotText` is returned if its value is not UTF-8, even if a later
+/// file of that name counts. Otherwise `OutOfMemory` is returned only if the allocator refuses memory for the
+/// variables. Without variables and files no memory is needed.
 pub fn apply<A: Allocator + Clone>(
     alloc: A,
     files: &[EnvFile<'_>],
@@ -37,14 +37,14 @@ pub fn apply<A: Allocator + Clone>(
     after(alloc, files, env).map_err(|_| EnvFault::OutOfMemory)
 }
 
-/// What is wrong with the first file that cannot be applied, where one cannot. It takes no memory.
+/// Returns the fault of the first file that cannot be applied, if there is one. Needs no memory.
 pub fn first_fault(files: &[EnvFile<'_>]) -> Option<EnvFault>
     ensures { result ≡ first_fault files.now }
 {
     check(files).err()
 }
 
-/// Says what is wrong with the first file that cannot be applied.
+/// Returns an error for the first file that cannot be applied.
 fn check(files: &[EnvFile<'_>]) -> Result<(), EnvFault>
     ensures { MatchOption (first_fault files.now) (IsOk result) (λ fault. result ≡ Err fault) }
 {
@@ -54,7 +54,7 @@ fn check(files: &[EnvFile<'_>]) -> Result<(), EnvFault>
     Ok(())
 }
 
-/// The environment after files that can be applied.
+/// Returns the environment after files that can be applied.
 fn after<A: Allocator + Clone>(
     alloc: A,
     files: &[EnvFile<'_>],

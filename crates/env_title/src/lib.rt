@@ -1,9 +1,9 @@
 //! The environment of envdir, and the title of readproctitle.
 //!
-//! [`apply`] changes an [`Env`] by the files of a folder (<https://cr.yp.to/daemontools/envdir.html>): a file `NAME`
-//! whose first line is `VALUE` sets the variable `NAME` to `VALUE`, and a file of 0 bytes removes its variable.
-//! [`Title`] is a text of fixed length that shows the last bytes of a log
-//! (<https://cr.yp.to/daemontools/readproctitle.html>). [`laws`] says what both are, in other words.
+//! [`apply`] changes an [`Env`] by the files of a folder (<https://cr.yp.to/daemontools/envdir.html>). A file `NAME`
+//! with the first line `VALUE` sets the variable `NAME` to `VALUE`. A file with 0 bytes removes its variable. [`Title`]
+//! is a text of fixed length that shows the last bytes of a log (<https://cr.yp.to/daemontools/readproctitle.html>).
+//! [`laws`] states facts about both.
 #![tactic(auto)]
 
 mod env;

@@ -8,15 +8,15 @@ use std::alloc::{AllocError, Allocator, Global};
 use std::marker::Model;
 use thiserror::Error;
 
-/// The dots in front of a title.
+/// The dots at the beginning of a title.
 const DOTS: [u8; 3] = *b"...";
 
-/// The least length of a title: the dots, and two bytes.
+/// The least length of a title: three dots and two bytes.
 const LEAST_LEN: usize = DOTS.len() + 2;
 
 /// A text of fixed length: three dots, and the last bytes that were pushed, as the readproctitle page
-/// (<https://cr.yp.to/daemontools/readproctitle.html>) has it. Contracts see the bytes after the dots as `items`, and
-/// how long the whole text is as `len`.
+/// (<https://cr.yp.to/daemontools/readproctitle.html>) describes it. Contracts see the bytes after the dots as `items`,
+/// and the length of the whole text as `len`.
 #[derive(Debug, Drop)]
 pub struct Title<A: Allocator + Clone = Global> {
     items: HeapCircularBuffer<u8, A>,
@@ -40,16 +40,16 @@ pub enum TitleFault {
     #[error("TooShort")]
     TooShort,
 
-    /// The allocator refused the memory for the bytes.
+    /// The allocator refused memory for the bytes.
     #[error("OutOfMemory")]
     OutOfMemory,
 }
 
 impl<A: Allocator + Clone> Title<A> {
-    /// The title of `len` bytes, all dots.
+    /// Returns a title of `len` bytes that are all dots.
     ///
-    /// A length under 5 is `TooShort`, also where there is no memory. Else `OutOfMemory` comes only where the allocator
-    /// refuses the memory for the bytes. No other call but [`Title::text`] takes memory.
+    /// `TooShort` is returned if the length is under 5, even if there is no memory. Otherwise `OutOfMemory` is returned
+    /// only if the allocator refuses memory for the bytes. Apart from this call, only [`Title::text`] takes memory.
     pub fn new(alloc: A, len: usize) -> Result<Title<A>, TitleFault>
         ensures ok { IfOk result (λ title. title ≡ new_title len) }
         ensures short { IsErrOf result TitleFault.TooShort ↔ (len < 5) }
@@ -61,14 +61,14 @@ impl<A: Allocator + Clone> Title<A> {
         Ok(Title { items })
     }
 
-    /// How many bytes the title has, whatever is pushed.
+    /// Returns how many bytes the title has. Pushes don't change it.
     pub fn len(&self) -> usize
         ensures { result ≡ self.now.len }
     {
         DOTS.len() + self.items.capacity()
     }
 
-    /// Shows a byte at the end, and gives up the first one after the dots. A NUL changes nothing.
+    /// Shows a byte at the end, and drops the first byte after the dots. A NUL changes nothing.
     pub fn push(&mut self, byte: u8)
         ensures { self.new ≡ pushed self.old (byte ∷ []) }
     {
@@ -90,7 +90,7 @@ impl<A: Allocator + Clone> Title<A> {
         self.items.extend_from_slice(rest);
     }
 
-    /// The text of the title. `AllocError` comes only where the allocator refuses the memory for it.
+    /// Returns the text of the title. `AllocError` is returned only if the allocator refuses memory for it.
     pub fn text(&self) -> Result<Vec<u8, A>, AllocError>
         ensures text { IfOk result (λ text. text.items ≡ title_text self.now) }
         ensures len { IfOk result (λ text. length text.items ≡ self.now.len) }
@@ -105,7 +105,7 @@ impl<A: Allocator + Clone> Title<A> {
     }
 }
 
-/// A buffer of this capacity that is full of dots.
+/// Returns a buffer of this capacity that is full of dots.
 fn full_of_dots<A: Allocator + Clone>(
     alloc: A,
     capacity: usize,

@@ -1,4 +1,4 @@
-//! The value of a variable in the bytes of its file.
+//! The value of a variable, from the bytes of its file.
 ghost use Rattle.std.specs.Prelude.{◌≡◌, true, IfOk, map, string_bytes};
 ghost use Rattle.std.specs.Str.{is_utf8};
 ghost use Rattle.env_title.specs.Files.{first_line, without_end_blanks, nul_as_newline, file_value};
@@ -6,7 +6,7 @@ ghost use Rattle.env_title.specs.Files.{first_line, without_end_blanks, nul_as_n
 use memchr::memchr;
 use std::alloc::{AllocError, Allocator};
 
-/// The bytes before the first newline, or all where there is none.
+/// Returns the bytes before the first newline, or all bytes if there is none.
 fn first_line(bytes: &[u8]) -> &[u8]
     ensures { result.now ≡ first_line bytes.now }
 {
@@ -14,7 +14,7 @@ fn first_line(bytes: &[u8]) -> &[u8]
     &bytes[..end]
 }
 
-/// The bytes without the spaces and tabs at their end.
+/// Returns the bytes without the spaces and tabs at their end.
 fn without_end_blanks(bytes: &[u8]) -> &[u8]
     ensures { result.now ≡ without_end_blanks bytes.now }
 {
@@ -25,14 +25,14 @@ fn without_end_blanks(bytes: &[u8]) -> &[u8]
     rest
 }
 
-/// The first line without the spaces and tabs at its end.
+/// Returns the first line without the spaces and tabs at its end.
 pub(crate) fn text_of(bytes: &[u8]) -> &[u8]
     ensures { result.now ≡ without_end_blanks (first_line bytes.now) }
 {
     without_end_blanks(first_line(bytes))
 }
 
-/// A copy of the bytes, with each NUL made a newline.
+/// Copies the bytes, with a newline for each NUL.
 fn with_newlines<A: Allocator>(alloc: A, bytes: &[u8]) -> Result<Vec<u8, A>, AllocError>
     ensures { IfOk result (λ copy. copy.items ≡ map nul_as_newline bytes.now) }
 {
@@ -42,7 +42,7 @@ fn with_newlines<A: Allocator>(alloc: A, bytes: &[u8]) -> Result<Vec<u8, A>, All
         .collect(alloc)
 }
 
-/// The value that a file with these bytes gives.
+/// Returns the value that a file with these bytes gives.
 pub(crate) fn file_value<A: Allocator>(alloc: A, bytes: &[u8]) -> Result<String<A>, AllocError>
     requires { is_utf8 (file_value bytes.now) ≡ true }
     ensures { IfOk result (λ value. string_bytes value ≡ file_value bytes.now) }

@@ -1,4 +1,4 @@
--- Lines that go to all logs alone, or to none.
+-- Lines that go only to logs: to all of them or to none.
 use Rattle.std.proofs.Common.{◌≡◌, ℕ, zero, suc, ◌+◌, ◌-◌, ◌<◌, ◌≤◌, nat_lt, if◌then◌else◌, Bool, true, false, List, []}
 use Rattle.std.proofs.Common.{◌∷◌, ◌++◌, length, take, drop, count_by, Option, None, refl, sym, subst, ap, ◌∙◌, arith}
 use Rattle.std.proofs.Common.{append-nil, length-append}
@@ -59,7 +59,7 @@ no_bytes_of : (text : List Sent) (bytes : List ℕ) → bytes_of text ≡ bytes 
 no_bytes_of [] bytes e none = refl
 no_bytes_of (s ∷ text) bytes e none = absurd cc
 
--- Where there are no lines yet, they are of each reach.
+-- If there are no lines yet, they have every reach.
 reach_of_none : (script : List Act) (was reach : Reach) (a b : Option (List Tai64n)) (bytes : List ℕ) → bytes ≡ []
     → AreAlike script was a b bytes 0
     → AreAlike script reach a b bytes 0
@@ -116,7 +116,7 @@ sent_bytes : (label : Tai64n) (bytes : List ℕ) → bytes_of (sent label bytes)
 sent_bytes label [] = refl
 sent_bytes label (b ∷ bs) = ap (λ (t : List ℕ). b ∷ t) (sent_bytes label bs)
 
--- What a line gives, by where it is selected.
+-- What a line gives, by the logs at which it is selected.
 given_by : (script : List Act) (label : Tai64n) (line : List ℕ) (c : Chosen) (next : Reach) → Fits c script
     → IsBare script
     → AllOrNone next → Reaches next c.logs
@@ -237,7 +237,7 @@ alike_further script label a b c bytes rest at len m ch lines next rest_is m_is 
     (turned script lines.reach next a b (take at bytes) m nothing_yet same k)
     (alike_line script label b c (take len rest) ch next plain gave is fits bare on.alike reaches))
 
--- They went on.
+-- The lines were handed on.
 
 same_joined : (x : Given) → SameGiven x (joined x nothing)
 same_joined x = record {
@@ -276,7 +276,7 @@ alike_went script reach p0 p q s t r r1 bytes m same count k takes =
       };
     }
 
--- They did not.
+-- The lines were not handed on.
 pub alike_stopped : (script : List Act) (reach : Reach) (p0 p q : Place) (s t : StoreState)
     (r r1 : Option (List Tai64n)) (bytes : List ℕ) (len m : ℕ) (why : LogFault) → p.tails ≡ p0.tails
     → length p.tails ≡ count_by is_log script → AreAlike script reach r r1 (take len bytes) m
@@ -325,7 +325,7 @@ alike_taken script reach r r1 bytes room len m within k =
     let w = length-take room bytes in
     subst (λ (t : List ℕ). AreAlike script reach r r1 t m) (take_within room len bytes (omega (arith, within, w))) k
 
--- None did, and others went on.
+-- No such lines were handed on, and then other bytes were.
 pub empty_then : (script : List Act) (a b c : Scene) (bytes ys : List ℕ) (len m n : ℕ) → len ≡ 0 → m ≤ len
     → Went script a b [] (take len bytes) m
     → ((line : List ℕ) → IsIn script b line → Went script b c line ys n) → Went script a c [] ys n
@@ -354,7 +354,7 @@ pub where_none_stopped : (script : List Act) (a b : Scene) (line bytes : List �
     → WentUpTo script a b [] bytes why → WentUpTo script a b line bytes why
 where_none_stopped script a b line bytes why is w = subst (λ (l : List ℕ). WentUpTo script a b l bytes why) (sym is) w
 
--- Nothing was fed yet, and no line has begun.
+-- Nothing was handed on yet, and no line has begun.
 pub after_nothing : (result : Result Fed LogFault) (script : List Act) (inside i : Option Tai64n) (p p1 q : Place)
     (s s1 t : StoreState) (a a1 b : Option (List Tai64n)) (bytes : List ℕ) (len m : ℕ)
     → inside ≡ None → i ≡ None → len ≡ 0 → m ≤ len

@@ -13,7 +13,7 @@ use Rattle.mlog_files.proofs.Counting.{text_counts}
 use Rattle.mlog_core.specs.Run.{planned_steps, log_steps, IsEnd}
 use Rattle.mlog_core.specs.Laws.{total_below, CountsAllSteps}
 
--- Each of some standings has a count.
+-- Each state of a log has a count.
 abbrev Each : (Standing → ℕ) → List Standing → (ℕ → ℕ) → Type 0
 Each mark ends each = (log : ℕ) → IfSome (slice_get ends log) (λ end. mark end ≡ min (2 ^ 64 - 1) (each log))
 

@@ -1,4 +1,4 @@
--- Bytes that go on behind others.
+-- Bytes that come after others.
 use Rattle.std.proofs.Common.{◌≡◌, ℕ, ◌+◌, ◌-◌, ◌<◌, Bool, true, false, List, [], ◌∷◌, ◌++◌, length, take, drop, Option}
 use Rattle.std.proofs.Common.{Some, None, refl, sym, subst, ap, ◌∙◌, arith, append_assoc, append-nil, length-append}
 use Rattle.tai_status.specs.Label.{Tai64n}
@@ -403,7 +403,7 @@ still_in script p q (Some label) line same at = (
   at.2,
 )
 
--- What waited was appended behind bytes that went on.
+-- The bytes that waited were appended, after bytes that were handed on.
 pub flushed : (script : List Act) (a : Scene) (line : List ℕ) (i : Option Tai64n) (p q : Place) (s t : StoreState)
     (r : Option (List Tai64n)) (bytes : List ℕ) (m : ℕ)
     → (q.chosen ≡ p.chosen) × (q.front ≡ p.front) × (q.decided ≡ p.decided)
@@ -428,7 +428,7 @@ flushed script a line i p q s t r bytes m same w k =
           (record { more = nothing; whole = Same-nothing y; takes = k });
     }
 
--- What a begun line is yet to give, at the end of the input.
+-- What a line that has begun is yet to give, at the end of the input.
 pub record End (script : List Act) (i : Option Tai64n) (left : List ℕ) : Type 0 where
   pub rest : Given
   pub whole : SameGiven (joined (given_in script i left) rest) (of_text script (labels_of i) left)
@@ -450,7 +450,7 @@ the_end script p (Some label) left is =
           (last_line script label left is.2 is.1);
     }
 
--- It could not be appended.
+-- The bytes that waited could not be appended.
 pub unflushed : (script : List Act) (a : Scene) (line : List ℕ) (i : Option Tai64n) (p q : Place) (s t : StoreState)
     (r : Option (List Tai64n)) (bytes : List ℕ) (m : ℕ) (why : LogFault)
     → Went script a (scene i p s r) line bytes m → Stops (outputs p.tails s) (outputs q.tails t) nothing why

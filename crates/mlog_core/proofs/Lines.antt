@@ -80,7 +80,7 @@ last_line script label line some plain = record {
   files = λ file. last_of (to_file script file) label line some plain;
 }
 
--- Whole lines, and others behind them.
+-- Whole lines, and other bytes after them.
 pub text_turn : (script : List Act) (names more : List Tai64n) (whole rest : List ℕ) → is_whole whole ≡ true
     → length names ≡ length (texts_of whole)
     → SameGiven (joined (of_text script names whole) (of_text script more rest))
@@ -124,7 +124,7 @@ short_by false label = omega arith
 pub begun_nothing : (script : List Act) (label : Tai64n) → nothing ≡ so_far script label []
 begun_nothing script label = kept_so_far script label [] (shown script label []) refl (short_by (stamps script) label)
 
--- The line that bytes belong to, up to its newline or their end.
+-- The line that contains these bytes, up to its newline or their end.
 line_by : (script : List Act) (label : Tai64n) (line text bytes rest : List ℕ) → IsPlain line → IsPlain text
     → bytes ≡ text ++ 10 ∷ rest
     → SameGiven (of_line script label (line ++ text)) (of_text script (label ∷ []) (line ++ bytes))

@@ -23,7 +23,7 @@ use Rattle.mlog_core.specs.Rotate.{rotation, stands_rotated, Rotates, RotatesUpT
 
 -- One log
 
--- Files that are reported reach the same by the same steps; of others nothing is said.
+-- Files that are shown reach the same files by the same steps. Nothing is said of files that are not shown.
 reaches_so : (files now : Option Files) (f : List Step → List Step) (a b : List Step) → IfSome files (λ _. a ≡ b)
     → Reaches files now (f a) → Reaches files now (f b)
 reaches_so None None f a b same k = tt
@@ -186,7 +186,7 @@ all_rotated script r o q count read reads all gave up = record {
   stays = up.stays;
 }
 
--- It stopped at one
+-- A rotation stopped at one log
 
 whole_front : (a b : Option Files) (steps : List Step) → Reaches a b steps → ReachesFront a b 0 steps
 whole_front a b steps k = record {

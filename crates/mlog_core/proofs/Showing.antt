@@ -1,4 +1,4 @@
--- What a run reports of the logs, alerts and status files.
+-- What a run shows of the logs, alerts and status files.
 use Rattle.std.proofs.Common.{◌≡◌, ℕ, ◌+◌, ◌-◌, ◌^◌, min, List, [], ◌∷◌, ◌++◌, take, map, fold, Option, Some}
 use Rattle.std.proofs.Common.{None, refl, sym, subst, ap, ◌∙◌, arith, append-nil}
 use Rattle.std.proofs.lemmas.Option.{slice_get-map}
@@ -33,7 +33,7 @@ use Rattle.mlog_core.specs.declared.stream.Counts.{Counts}
 use Rattle.mlog_core.specs.declared.stream.RunFault.{RunFault}
 use Rattle.mlog_core.specs.declared.stream.RunFault.TheVariants as fault
 
--- Where logs stood
+-- The states of logs
 
 stood_at : Option Tail → Option Files → Standing
 stood_at (Some t) files = standing t

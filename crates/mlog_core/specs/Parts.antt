@@ -13,7 +13,7 @@ use Rattle.mlog_core.specs.declared.stream.RunFault.TheVariants as fault
 use Rattle.mlog_files.specs.declared.tail.LogFault.{LogFault}
 use Rattle.mlog_files.specs.declared.tail.LogFault.TheVariants as log_fault
 
--- What it reads, writes and asks: the input, the store, and what the clock gave.
+-- What a run reads, writes and asks: the input, the store, and the readings of the clock.
 pub record Play : Type 0 where
   pub feed : Feed
   pub store : StoreState
@@ -22,7 +22,7 @@ pub record Play : Type 0 where
 abbrev pub play : Feed → StoreState → Option (List Tai64n) → Play
 play feed store readings = record { feed = feed; store = store; readings = readings }
 
--- what a run of the part has to do with
+-- the same for a run of one part
 abbrev pub world_at : Play → World
 world_at p = world p.feed.device p.store p.readings
 
@@ -34,7 +34,8 @@ pub record RunsPart (script : List Act) (old new : Play) : Type 0 where
   pub works : Works old.feed.device new.feed.device
   pub behind : new.feed.behind ≡ old.feed.behind
 
--- So it was, it was heard that the logs are to be rotated, they were, and the next part is begun.
+-- All of the part was read and handed out; a request to rotate the logs came in; they were rotated; and the next part
+-- begins.
 pub record Turns (script : List Act) (old new : Play) : Type 0 where
   pub ended : Play
   pub runs : RunsPart script old ended
@@ -42,12 +43,12 @@ pub record Turns (script : List Act) (old new : Play) : Type 0 where
   pub opens : OpensNext ended.feed new.feed
   pub rotates : Rotates script ended.store new.store ended.readings new.readings
 
--- So it went from part to part, over these beginnings of parts, of which the last is first.
+-- The run went in this way from part to part. These are the beginnings of the parts, the last one first.
 abbrev pub TurnsOver : List Play → List Act → Play → Play → Type 0
 TurnsOver [] script old new = new ≡ old
 TurnsOver (begun ∷ before) script old new = TurnsOver before script old begun × Turns script begun new
 
--- The part was handed out, but not all logs were rotated behind it.
+-- The part was handed out, but not all logs were rotated after it.
 pub record RotatesNot (script : List Act) (old new : Play) (why : LogFault) : Type 0 where
   pub ended : Play
   pub runs : RunsPart script old ended
@@ -67,15 +68,15 @@ EndsBy (Some fault.LabelsSpent) script old new =
     RunsUpTo script (world_at old) (world_at new) fault.LabelsSpent ⊎ RotatesNot script old new log_fault.LabelsSpent
 EndsBy (Some fault.OutOfMemory) script old new = world_at new ≡ world_at old
 
--- A script was run over all parts of an input, or until a fault: whole parts, and behind each a rotation; and then the
--- last one.
+-- A script was run over all parts of an input, or until a fault: whole parts, each with a rotation after it, and then
+-- the last part.
 pub record RunsParts (ran : Option RunFault) (script : List Act) (old new : Play) : Type 0 where
   pub begun : List Play
   pub last : Play
   pub turns : TurnsOver begun script old last
   pub ends : EndsBy ran script last new
 
--- The same, of an input, a store and a clock of which contracts see this.
+-- The same, for an input, a store and a clock that contracts see in this way.
 abbrev pub PlaysParts : {I S C : Type 0} (ran : Option RunFault) (script : List Act) (feed : I → Feed)
     (input inputs : I) (state : S → StoreState) (store stored : S) (readings : C → Option (List Tai64n))
     (clock read : C) → Type 0

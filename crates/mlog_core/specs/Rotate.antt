@@ -12,32 +12,31 @@ use Rattle.mlog_files.specs.declared.tail.LogFault.{LogFault}
 use Rattle.mlog_files.specs.declared.tail.LogFault.TheVariants as log_fault
 use Rattle.mlog_core.specs.Run.{ReachesFront}
 
--- The steps of a rotation of the log that a plan asks for, by its files, where they are visible: a current file that
--- isn't empty is finished under the label that the reading gives, or the next one past the greatest in the names of old
--- files.
+-- The steps that rotate the log of a plan, by its files, if they are visible. A current file that isn't empty is
+-- finished, under the label from the clock reading, or the label after the greatest in the names of old files.
 abbrev pub rotation : Option Plan → Tai64n → Option Files → List Step
 rotation None reading files = []
 rotation (Some plan) reading None = []
 rotation (Some plan) reading (Some files) = rotate_steps plan.keep (found files) reading
 
--- where the log stands then: nowhere where there is no label
+-- the state of the log after a rotation, or none if there is no label
 abbrev pub stands_rotated : Option Plan → Tai64n → Option Files → Option Standing
 stands_rotated None reading files = None
 stands_rotated (Some plan) reading None = None
 stands_rotated (Some plan) reading (Some files) = rotated plan.keep (found files) reading
 
--- The log of this number was rotated under a reading of the clock.
+-- The log with this number was rotated, with this reading of the clock.
 abbrev pub RotatesLog : (script : List Act) (reading : Tai64n) (log : ℕ) (old new : StoreState) → Type 0
 RotatesLog script reading log old new =
     Does old new log (rotation (slice_get (log_plans script) log) reading (old.visible.files log))
 
--- It was not, or not wholly.
+-- The log was not rotated, or not completely.
 abbrev pub RotatesLogUpTo : (script : List Act) (reading : Tai64n) (log : ℕ) (old new : StoreState) → LogFault → Type 0
 RotatesLogUpTo script reading log old new why =
     StopsOn old new log (rotation (slice_get (log_plans script) log) reading (old.visible.files log))
     (stands_rotated (slice_get (log_plans script) log) reading (old.visible.files log)) why
 
--- All logs of a script were rotated under a reading of the clock, and nothing else was done.
+-- All logs of a script were rotated, with one reading of the clock, and nothing else was done.
 pub record Rotates (script : List Act) (old new : StoreState) (read reads : Option (List Tai64n)) : Type 0 where
   pub reading : Tai64n
   pub gave : Extended read reads (reading ∷ [])
@@ -47,8 +46,8 @@ pub record Rotates (script : List Act) (old new : StoreState) (read reads : Opti
   pub alerts : new.visible.alerts ≡ old.visible.alerts
   pub stays : Stays old new
 
--- Not all were: a front of the steps of each log is done. The store failed, which is counted; or a log has no label
--- for an old file.
+-- Not all logs were rotated: a prefix of the steps of each log is done. Either the store failed, and the failure is
+-- counted; or a log has no label for an old file.
 pub record RotatesUpTo (script : List Act) (old new : StoreState) (read reads : Option (List Tai64n)) (why : LogFault)
     : Type 0 where
   pub reading : Tai64n

@@ -20,7 +20,7 @@ use Rattle.mlog_core.specs.declared.stream.Counts.{Counts}
 use Rattle.mlog_core.specs.declared.stream.RunFault.{RunFault}
 use Rattle.mlog_core.specs.declared.stream.RunFault.TheVariants as fault
 
--- What a run reads, writes and asks: the reader, the store, and what the clock gave.
+-- What a run reads, writes and asks: the reader, the store, and the readings of the clock.
 pub record World : Type 0 where
   pub reader : Device
   pub store : StoreState
@@ -29,11 +29,11 @@ pub record World : Type 0 where
 abbrev pub world : Device → StoreState → Option (List Tai64n) → World
 world reader store readings = record { reader = reader; store = store; readings = readings }
 
--- where each log stood when it was opened: as its files are, where they are visible
+-- the state of each log when it was opened: that of its files, if they are visible
 abbrev pub AreFound : Visible → (ℕ → Standing) → Type 0
 AreFound visible stood = (log : ℕ) → IfSome (visible.files log) (λ files. stood log ≡ found files)
 
--- the steps of a log that a plan asks for, for a text
+-- the steps of the log of a plan, for a text
 abbrev pub planned_steps : Option Plan → Standing → List Sent → List Step
 planned_steps None stood text = []
 planned_steps (Some plan) stood text = steps_on plan.size plan.keep (Some stood) text
@@ -43,17 +43,17 @@ abbrev pub log_steps : List Act → (ℕ → Standing) → List Tai64n → List 
 log_steps script stood labels bytes log =
     planned_steps (slice_get (log_plans script) log) (stood log) (log_text script log labels bytes)
 
--- where such a log goes no further, as there is no label for an old file
+-- whether such a log stops since there is no label for an old file
 abbrev pub IsPlanSpent : Option Plan → Standing → List Sent → Type 0
 IsPlanSpent None stood text = ⊥
 IsPlanSpent (Some plan) stood text = standing_on plan.size plan.keep (Some stood) text ≡ None
 
--- where such a log stands at the end
+-- the state of such a log at the end
 abbrev pub IsEnd : Option Plan → Standing → List Sent → Option Standing → Type 0
 IsEnd None stood text end = end ≡ None
 IsEnd (Some plan) stood text end = standing_on plan.size plan.keep (Some stood) text ≡ end
 
--- How many files all logs have finished, and removed, by where each stands at the end. The counts stop at 2^64 - 1.
+-- How many files all logs have finished, and removed, by the state of each at the end. The counts stop at 2^64 - 1.
 abbrev pub all_finished : List Standing → ℕ
 all_finished ends = fold (λ total end. min (2 ^ 64 - 1) (total + end.marks.finished)) 0 ends
 
@@ -61,7 +61,7 @@ abbrev pub all_removed : List Standing → ℕ
 all_removed ends = fold (λ total end. min (2 ^ 64 - 1) (total + end.marks.removed)) 0 ends
 
 -- All the input was handed out: each log's files went through the steps of its text, the alerts were alerted, and each
--- status file was given its contents. There was one reading of the clock for each line.
+-- status file was given its contents. The clock was read once for each line.
 pub record RunsAll (script : List Act) (old new : World) (counts : Counts) : Type 0 where
   pub bytes : List ℕ
   pub labels : List Tai64n
@@ -82,30 +82,30 @@ pub record RunsAll (script : List Act) (old new : World) (counts : Counts) : Typ
   pub finished : counts.finished ≡ all_finished ends
   pub removed : counts.removed ≡ all_removed ends
 
--- The files of a log went through a front of some steps, and at least so many of them.
+-- The files of a log went through a prefix of some steps, with at least this many of them.
 pub record ReachesFront (old new : Option Files) (least : ℕ) (steps : List Step) : Type 0 where
   pub count : ℕ
   pub enough : least ≤ count
   pub reaches : Reaches old new (take count steps)
 
--- the label of a line that has begun, where one has
+-- the label of a line that has begun, if there is one
 abbrev pub labels_of : Option Tai64n → List Tai64n
 labels_of None = []
 labels_of (Some label) = label ∷ []
 
--- What a line has given that has begun and not ended, where one has: nothing, until its first 1000 bytes are there and
--- decide.
+-- What a line that has begun and not ended has given, if there is one: nothing, until its first 1000 bytes are there
+-- and decide.
 abbrev pub given_in : List Act → Option Tai64n → List ℕ → Given
 given_in script None front = nothing
 given_in script (Some label) front = so_far script label front
 
--- These are the bytes of a line that has begun, where one has.
+-- These are the bytes of a line that has begun, if there is one.
 abbrev pub IsBegun : Option Tai64n → List ℕ → Type 0
 IsBegun None front = front ≡ []
 IsBegun (Some label) front = 0 < length front
 
--- The reader failed. What it gave is whole lines and the front of a last one, where that has begun. The lines were
--- handed out, and of the front what it gives before its end.
+-- The reader failed. It gave whole lines, and perhaps the beginning of a last line. The lines were handed out. The last
+-- line has given what it gives before its end.
 pub record RunsLines (script : List Act) (old new : World) : Type 0 where
   pub lines : List ℕ
   pub front : List ℕ
@@ -127,8 +127,8 @@ pub record RunsLines (script : List Act) (old new : World) : Type 0 where
   pub files : (file : ℕ) → WasGiven (old.store.visible.statuses file) (new.store.visible.statuses file)
       (file_contents script file labels lines ++ (given_in script begun front).files file)
 
--- The store failed, or there was no label for an old file: a front of the steps of each log is done, a front of the
--- alerts was alerted, and each status file was given a front of its contents.
+-- The store failed, or there was no label for an old file. A prefix of the steps of each log is done, a prefix of the
+-- alerts was alerted, and each status file was given a prefix of its contents.
 pub record RunsUpTo (script : List Act) (old new : World) (why : RunFault) : Type 0 where
   pub bytes : List ℕ
   pub labels : List Tai64n
@@ -145,8 +145,8 @@ pub record RunsUpTo (script : List Act) (old new : World) (why : RunFault) : Typ
   pub spent : why ≡ fault.LabelsSpent → (log : ℕ)
       × IsPlanSpent (slice_get (log_plans script) log) (stood log) (log_text script log labels bytes)
 
--- How a run ends. At Ok all the input was handed out. The reader failed, and what it gave was handed out; or the store
--- failed, or a log has no label for an old file, after a front of the steps; or there was no memory, and nothing was
+-- How a run ends. At Ok all the input was handed out. If the reader failed, what it gave was handed out. If the store
+-- failed, or a log has no label for an old file, a prefix of the steps is done. If memory was lacking, nothing was
 -- done.
 pub record RunEnds (result : Result Counts RunFault) (script : List Act) (old new : World) : Type 0 where
   pub done : IfOk result (λ counts. RunsAll script old new counts)
@@ -155,13 +155,13 @@ pub record RunEnds (result : Result Counts RunFault) (script : List Act) (old ne
   pub spent : IsErrOf result fault.LabelsSpent → RunsUpTo script old new fault.LabelsSpent
   pub memory : IsErrOf result fault.OutOfMemory → new ≡ old
 
--- The same, of a store and a clock of which contracts see this.
+-- The same, for a store and a clock that contracts see in this way.
 abbrev pub RunsTo : {S C : Type 0} (result : Result Counts RunFault) (script : List Act) (reader reads : Device)
     (state : S → StoreState) (store stored : S) (readings : C → Option (List Tai64n)) (clock read : C) → Type 0
 RunsTo result script reader reads state store stored readings clock read =
     RunEnds result script (world reader (state store) (readings clock)) (world reads (state stored) (readings read))
 
--- The same, of the part of an input that is read.
+-- The same, for the part of an input that is being read.
 abbrev pub PartRuns : {I S C : Type 0} (result : Result Counts RunFault) (script : List Act) (feed : I → Feed)
     (input inputs : I) (state : S → StoreState) (store stored : S) (readings : C → Option (List Tai64n))
     (clock read : C) → Type 0

@@ -1,4 +1,4 @@
--- What a run has done, as the functions below it say. No public contract speaks of it.
+-- What a run has done, in the words of its private functions. No public contract names these definitions.
 use Rattle.std.specs.Prelude.{◌≡◌, ℕ, List, [], length, Option, None, Result, IfOk, IsErrOf}
 use Rattle.tai_status.specs.Label.{Tai64n}
 use Rattle.tai_status.specs.Lines.{texts_of}
@@ -16,7 +16,7 @@ use Rattle.mlog_core.specs.Scene.{Scene, scene, outputs_of, Went}
 use Rattle.mlog_core.specs.declared.stream.RunFault.{RunFault}
 use Rattle.mlog_core.specs.declared.stream.RunFault.TheVariants as fault
 
--- All that was read went on from the beginning.
+-- All that was read was handed on, from the beginning.
 pub record Came (script : List Act) (old new : Scene) (reader reads : Device) (count : ℕ) : Type 0 where
   pub bytes : List ℕ
   pub read : Gives reader reads bytes
@@ -32,7 +32,7 @@ pub record Done (script : List Act) (old new : Scene) (reader reads : Device) (c
   pub count_is : count ≡ length labels
   pub takes : Takes (outputs_of old) (outputs_of new) (of_text script labels bytes)
 
--- It was not all handed out.
+-- Not all that was read was handed out.
 pub record Halted (script : List Act) (old new : Scene) (reader reads : Device) (why : LogFault) : Type 0 where
   pub bytes : List ℕ
   pub labels : List Tai64n
@@ -40,8 +40,8 @@ pub record Halted (script : List Act) (old new : Scene) (reader reads : Device) 
   pub gave : Extended old.readings new.readings labels
   pub stops : Stops (outputs_of old) (outputs_of new) (of_text script labels bytes) why
 
--- What a call comes to that reads all lines and hands them out: all of it is done; or the reader failed, and what came
--- is written; or it halted, and why.
+-- The outcomes of a call that reads all lines and hands them out. Either all of it is done; or the reader failed, and
+-- what came is written; or the call stopped, with its reason.
 pub record Runs (result : Result ℕ RunFault) (script : List Act) (place now : Place) (was is : StoreState)
     (read reads : Option (List Tai64n)) (reader reader_now : Device) : Type 0 where
   pub done : IfOk result (λ lines.
@@ -53,7 +53,7 @@ pub record Runs (result : Result ℕ RunFault) (script : List Act) (place now : 
   pub spent : IsErrOf result fault.LabelsSpent
       → Halted script (scene None place was read) (scene None now is reads) reader reader_now log_fault.LabelsSpent
 
--- The same, of the part of an input that is read, and of a store and a clock of which contracts see this.
+-- The same, for the part of an input that is being read, and for a store and a clock that contracts see in this way.
 abbrev pub RunsOf : {S C I : Type 0} (result : Result ℕ RunFault) (script : List Act) (place now : Place)
     (state : S → StoreState) (store stored : S) (readings : C → Option (List Tai64n)) (clock read : C)
     (feed : I → Feed) (input inputs : I) → Type 0

@@ -1,4 +1,4 @@
-//! How bytes are fed to a router, line by line.
+//! How bytes are given to a router, line by line.
 ghost use Rattle.std.specs.Prelude.{◌≡◌, ◌≤◌, ◌<◌, true, Option, None, length, take, OnOk, IfOk};
 ghost use Rattle.mlog_script.specs.Selection.{Fits};
 ghost use Rattle.mlog_files.specs.Store.{Stays};
@@ -12,14 +12,14 @@ use mlog_script::Script;
 use std::alloc::Allocator;
 use tai_status::{Label, TimeSource};
 
-/// What was taken of some bytes: how many, and whether their line has ended.
+/// How many of some bytes were taken, and whether their line has ended.
 #[derive(Clone, Copy)]
 pub struct Taken {
     pub len: usize,
     pub ends: bool,
 }
 
-/// What was fed of some bytes: how many, the label of the line that goes on behind them, and how many lines began.
+/// How many of some bytes were taken, the label of the line that continues after them, and how many lines began.
 #[derive(Clone, Copy)]
 pub struct Fed {
     pub len: usize,
@@ -27,14 +27,14 @@ pub struct Fed {
     pub begun: u64,
 }
 
-/// The label of the line that goes on after a part, unless it has ended.
+/// Returns the label of the line that continues after a part, unless it has ended.
 fn line_left(label: Label, ends: bool) -> Option<Label>
     ensures { result ≡ left_of label ends }
 {
     if ends { None } else { Some(label) }
 }
 
-/// Feeds bytes of a line that has begun, up to a newline or to their end.
+/// Gives the router bytes of a line that has begun, up to a newline or to their end.
 fn feed_line<A: Allocator + Clone, B: Allocator + Clone, S: LogStore>(
     router: &mut LineRouter<A>,
     script: &Script<B>,
@@ -62,7 +62,7 @@ fn feed_line<A: Allocator + Clone, B: Allocator + Clone, S: LogStore>(
     })
 }
 
-/// Feeds the bytes up to a newline or to their end. A line that begins with them is given a label.
+/// Gives the router the bytes up to a newline or to their end. A line that begins with them gets a label.
 fn feed_part<A: Allocator + Clone, B: Allocator + Clone, S: LogStore, C: TimeSource>(
     router: &mut LineRouter<A>,
     script: &Script<B>,
@@ -99,7 +99,7 @@ fn feed_part<A: Allocator + Clone, B: Allocator + Clone, S: LogStore, C: TimeSou
     }
 }
 
-/// Some whole lines of one reach: how many bytes they have, and how many they are.
+/// Some whole lines of one reach: how many bytes they have, and how many lines they are.
 #[derive(Clone, Copy)]
 pub struct Lines {
     pub len: usize,
@@ -107,8 +107,8 @@ pub struct Lines {
     pub reach: Reach,
 }
 
-/// Whether a line goes on some lines of one reach: it goes to all logs or to none, and where there are lines already,
-/// so do they.
+/// Returns whether a line can be added to some lines of one reach: it goes to all logs or to none, and if there are
+/// lines already, they go to the same logs.
 fn goes_on(lines: &Lines, next: Reach) -> bool
     ensures { result ≡ true → GoesOn lines.now next }
 {
@@ -118,8 +118,8 @@ fn goes_on(lines: &Lines, next: Reach) -> bool
     }
 }
 
-/// The whole lines at the front of some bytes that are selected at all logs, or those that are selected at none. The
-/// clock is read for each.
+/// Returns the whole lines at the beginning of some bytes that are all selected at all logs, or all at none. Reads the
+/// clock for each.
 fn read_alike<A: Allocator + Clone, B: Allocator + Clone, C: TimeSource>(
     router: &mut LineRouter<A>,
     script: &Script<B>,
@@ -160,8 +160,8 @@ fn read_alike<A: Allocator + Clone, B: Allocator + Clone, C: TimeSource>(
     lines
 }
 
-/// Feeds the whole lines at the front of some bytes that go to all logs alone, or to none, as one piece: as many as can
-/// fill no file.
+/// Gives the router, as one piece, the whole lines at the beginning of some bytes that go only to logs: to all of them
+/// or to none. It gives as many as can't fill a file.
 fn feed_alike<A: Allocator + Clone, B: Allocator + Clone, S: LogStore, C: TimeSource>(
     router: &mut LineRouter<A>,
     script: &Script<B>,
@@ -191,8 +191,8 @@ fn feed_alike<A: Allocator + Clone, B: Allocator + Clone, S: LogStore, C: TimeSo
     })
 }
 
-/// Feeds bytes, as many as go on at once: where no line has begun, whole lines that go to all logs alone, or to none;
-/// or else bytes of one line.
+/// Gives the router as many bytes as it takes at once. If no line has begun, these are whole lines that go only to
+/// logs, to all of them or to none. Otherwise they are bytes of one line.
 fn feed_some<A: Allocator + Clone, B: Allocator + Clone, S: LogStore, C: TimeSource>(
     router: &mut LineRouter<A>,
     script: &Script<B>,
@@ -218,7 +218,7 @@ fn feed_some<A: Allocator + Clone, B: Allocator + Clone, S: LogStore, C: TimeSou
     feed_part(router, script, store, clock, None, bytes)
 }
 
-/// Feeds all bytes.
+/// Gives the router all bytes.
 fn feed_parts<A: Allocator + Clone, B: Allocator + Clone, S: LogStore, C: TimeSource>(
     router: &mut LineRouter<A>,
     script: &Script<B>,
@@ -248,7 +248,7 @@ fn feed_parts<A: Allocator + Clone, B: Allocator + Clone, S: LogStore, C: TimeSo
     })
 }
 
-/// Feeds all bytes, and appends what waits.
+/// Gives the router all bytes, and appends the bytes that wait.
 pub fn feed_block<A: Allocator + Clone, B: Allocator + Clone, S: LogStore, C: TimeSource>(
     router: &mut LineRouter<A>,
     script: &Script<B>,
@@ -268,7 +268,7 @@ pub fn feed_block<A: Allocator + Clone, B: Allocator + Clone, S: LogStore, C: Ti
     Ok(fed)
 }
 
-/// Ends the last line, where one has begun, and appends what waits.
+/// Ends the last line, if one has begun, and appends the bytes that wait.
 pub fn feed_end<A: Allocator + Clone, B: Allocator + Clone, S: LogStore>(
     router: &mut LineRouter<A>,
     script: &Script<B>,

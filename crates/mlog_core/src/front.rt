@@ -1,4 +1,4 @@
-//! What some bytes begin with, before a newline.
+//! The bytes before a newline.
 ghost use Rattle.std.specs.Prelude.{◌≡◌, ◌≤◌, true, false, length, take};
 ghost use Rattle.tai_status.specs.LineReader.{IsPlain};
 ghost use Rattle.mlog_core.specs.Scene.{HasNewlineAt};
@@ -12,7 +12,7 @@ pub struct PlainFront {
     pub ends: bool,
 }
 
-/// The bytes before the first newline, or all where there is none. The newline is not counted.
+/// Returns how many bytes come before the first newline, or all if there is none. The newline is not counted.
 pub fn plain_front(bytes: &[u8]) -> PlainFront
     ensures within { result.len ≤ length bytes.now }
     ensures plain { IsPlain (take result.len bytes.now) }

@@ -1,7 +1,7 @@
-//! What is true of the definitions alone, for readers. The function does nothing: its contract is the law.
+//! Facts about the definitions alone, for readers. The function does nothing: its contract is the law.
 ghost use Rattle.mlog_core.specs.Laws.{RunsCountTheirSteps};
 
-/// The counts of a run are the numbers of finishes and removals among the steps of all its logs.
+/// States that the counts of a run are the numbers of files finished and removed in the steps of all its logs.
 pub fn counts_of_a_run()
     ensures counts { RunsCountTheirSteps }
 {}

@@ -1,8 +1,8 @@
 //! What multilog does (<https://cr.yp.to/daemontools/multilog.html>): it reads lines, and hands them out to logs,
 //! alerts and status files as its script says.
 //!
-//! [`run`] streams: of a line no more than the first 1000 bytes are kept in memory, and what a read gave is appended
-//! before the next read.
+//! [`run`] streams: at most the first 1000 bytes of a line are kept in memory, and what a read gave is appended before
+//! the next read.
 #![tactic(auto)]
 
 mod feed;

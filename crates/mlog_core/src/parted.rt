@@ -4,8 +4,8 @@ ghost use Rattle.std.specs.Prelude.{◌≡◌, ◌≤◌, true, false, IfOk, OnO
 use std::io::Read;
 use tai_status::{Cause, DeviceFault, Input};
 
-/// The input of a logger. It comes in parts: behind each but the last the logs are to be rotated. Contracts see the
-/// part that is read, and what is behind it where that is visible.
+/// The input of a logger. It comes in parts: the logs are to be rotated after each part but the last. Contracts see the
+/// part that is being read, and the parts after it if they are visible.
 pub trait PartedInput {
     ghost use Rattle.std.specs.Prelude.{◌≡◌, ◌≤◌, true, false, IfOk, IsSome, OnOk, OnErr, length};
     ghost use Rattle.std.specs.Io.KnownBytes.{ReadConsumes};
@@ -14,7 +14,7 @@ pub trait PartedInput {
 
     ghost feed: { Self → Feed };
 
-    /// Reads once of the part, as [`Input::read`] does: it gives no byte only at the part's end, or into an empty
+    /// Reads once from the part, as [`Input::read`] does. No byte comes only at the part's end, or with an empty
     /// buffer.
     fn read_part(&mut self, into: &mut [u8]) -> Result<usize, DeviceFault>
         ensures bound { IfOk result (λ count. count ≤ length into.new) }
@@ -25,11 +25,11 @@ pub trait PartedInput {
         ensures why { OnErr result (IsSome (feed self.new).device.cause) }
         ensures behind { (feed self.new).behind ≡ (feed self.old).behind };
 
-    /// The cause of the last fault.
+    /// Returns the cause of the last fault.
     fn last_cause(&self) -> Option<Cause>
         ensures { result ≡ (feed self.now).device.cause };
 
-    /// Whether the logs are to be rotated behind the part, which is at its end. If so the next part is begun.
+    /// Returns whether the logs are to be rotated after the part, which has ended. If so, the next part begins.
     fn next_part(&mut self) -> bool
         requires end { IsRead (feed self.old).device }
         ensures asked { result ≡ (feed self.old).rotates }

@@ -8,7 +8,7 @@ use mlog_script::Script;
 use std::alloc::Allocator;
 use tai_status::{Label, TimeSource};
 
-/// Rotates the log of a number, in which nothing waits.
+/// Rotates the log with a number. No bytes may wait in it.
 fn rotate_log<B: Allocator + Clone, S: LogStore>(
     script: &Script<B>,
     store: &mut S,
@@ -29,7 +29,8 @@ fn rotate_log<B: Allocator + Clone, S: LogStore>(
     }
 }
 
-/// Finishes the current file of each log that has a byte, all under one reading of the clock. In no log anything waits.
+/// Finishes the current file of each log that has a byte, all with one reading of the clock. No bytes may wait in any
+/// log.
 pub(crate) fn rotate_all<B: Allocator + Clone, S: LogStore, C: TimeSource>(
     script: &Script<B>,
     store: &mut S,

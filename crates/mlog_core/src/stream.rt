@@ -18,7 +18,7 @@ use std::io::Read;
 use tai_status::{BLOCK, Input, Label, TimeSource};
 use thiserror::Error;
 
-/// What a run did.
+/// The counts of a run.
 #[derive(Clone, Copy, Debug, PartialEq, Eq)]
 pub struct Counts {
     /// How many lines there were.
@@ -40,7 +40,7 @@ pub enum RunFault {
     /// The store failed.
     #[error("Store")]
     Store,
-    /// There was no memory to begin with.
+    /// There was too little memory to begin.
     #[error("OutOfMemory")]
     OutOfMemory,
     /// There is no greater label for an old file.
@@ -51,9 +51,10 @@ pub enum RunFault {
 /// Reads all lines, and hands each out to the logs, alerts and status files at which the script selects it. The clock
 /// is read once for each line, at its first byte. A last line without a newline gets one in the logs.
 ///
-/// All memory is taken at the beginning: `OutOfMemory` comes only where the allocator refuses a block of 32,768 bytes
-/// for each log, or a byte for each alert, log and status file, and nothing was read then. After `Read` all lines that
-/// were read whole are in their logs. After `Store` and `LabelsSpent` a front of what each log was to get is in it.
+/// All memory is taken at the beginning. `OutOfMemory` is returned only if the allocator refuses a block of 32,768
+/// bytes for each log, or a byte for each alert, log and status file; nothing was read then. After `Read`, all lines
+/// that were read whole are in their logs. After `Store` and `LabelsSpent`, each log has a prefix of what it was to
+/// get.
 pub fn run<A: Allocator + Clone, B: Allocator + Clone, D: Read, S: LogStore, C: TimeSource>(
     alloc: A,
     script: &Script<B>,
@@ -76,7 +77,7 @@ pub fn run<A: Allocator + Clone, B: Allocator + Clone, D: Read, S: LogStore, C: 
     run_part(alloc, script, reader, store, clock)
 }
 
-/// The same over the part of an input that is read; what is behind that part stays there.
+/// Runs the script over the part of an input that is being read. The parts after it stay unread.
 pub(crate) fn run_part<A, B, I, S, C>(
     alloc: A,
     script: &Script<B>,
@@ -116,7 +117,7 @@ where
     }
 }
 
-/// The fault of a run whose log goes no further.
+/// Returns the fault of a run after a log stopped.
 pub(crate) fn fault_of(why: LogFault) -> RunFault
     ensures store { why ≡ log_fault.Store → result ≡ RunFault.Store }
     ensures spent { why ≡ log_fault.LabelsSpent → result ≡ RunFault.LabelsSpent }
@@ -130,7 +131,7 @@ pub(crate) fn fault_of(why: LogFault) -> RunFault
     }
 }
 
-/// Reads all lines, and hands them out. It says how many there were.
+/// Reads all lines, and hands them out. Returns how many there were.
 fn run_lines<A, B, I, S, C>(
     router: &mut LineRouter<A>,
     script: &Script<B>,

@@ -13,11 +13,11 @@ use mlog_script::Script;
 use std::alloc::Allocator;
 use tai_status::TimeSource;
 
-/// Runs a script over all parts of an input, each as [`crate::run`] does over a whole one. Behind each part but the
-/// last the current file of each log becomes an old file, unless it is empty. Nothing that was read waits then, and no
-/// line is parted: a part ends at a line's end.
+/// Runs a script over all parts of an input, each as [`crate::run`] does for a whole one. After each part but the last,
+/// the current file of each log becomes an old file, unless it is empty. No bytes wait then, and no line is divided: a
+/// part ends at the end of a line.
 ///
-/// The memory of a part is taken at its beginning: `OutOfMemory` comes before anything of it is read.
+/// The memory for a part is taken at its beginning: `OutOfMemory` is returned before anything of the part is read.
 pub fn run_parts<A, B, I, S, C>(
     alloc: A,
     script: &Script<B>,

@@ -1,4 +1,4 @@
--- The counts of a log's finishes and removals.
+-- The counts of the finished and the removed files of a log.
 use Rattle.std.proofs.Common.{◌≡◌, ℕ, ◌+◌, ◌^◌, ◌<◌, ◌==◌, nat_le, if◌then◌else◌, cond, count_by, Bool, true, false}
 use Rattle.std.proofs.Common.{List, [], ◌∷◌, ◌++◌, Option, Some, None, refl, sym, subst, ap, ◌∙◌, arith, append_assoc}
 use Rattle.std.proofs.lemmas.List.Sums.{sum_by-append}
@@ -40,7 +40,7 @@ finish_by : (keep : ℕ) (a : Marks) (label : Tai64n) (b : Bool) → a.finished 
 finish_by keep a label true f r e = rw e (record { finished = refl; removed = refl })
 finish_by keep a label false f r e = rw e (record { finished = refl; removed = omega (arith, r) })
 
--- A finish under a label, where there is one.
+-- A file is finished under a label, if there is one.
 given_counts : (keep : ℕ) (a : Marks) (label : Option Tai64n) (now : Standing) → a.finished < 2 ^ 64
     → a.removed < 2 ^ 64 → stands_under keep a label ≡ Some now
     → CountsSteps a now.marks (finish_under keep a label)
@@ -73,13 +73,13 @@ byte_by keep log now s false f r is =
     (ap (λ (s : Standing). s.marks) (some_same (record { count = log.count + 1; marks = log.marks }) now is)) f r
     refl refl
 
--- A text whose counts are right wherever the log stands before it.
+-- A text with right counts for any state of the log before it.
 abbrev RightFor : ℕ → ℕ → List Sent → Type 0
 RightFor size keep text = (log end : Standing) → log.marks.finished < 2 ^ 64 → log.marks.removed < 2 ^ 64
     → standing_on size keep (Some log) text ≡ Some end
     → CountsSteps log.marks end.marks (steps_on size keep (Some log) text)
 
--- One byte before it.
+-- The same text with one byte before it.
 from_byte : (size keep : ℕ) (log end : Standing) (s : Sent) (text : List Sent) (now : Option Standing)
     → RightFor size keep text → after_byte size keep (Some log) s ≡ now
     → log.marks.finished < 2 ^ 64 → log.marks.removed < 2 ^ 64 → standing_on size keep now text ≡ Some end

@@ -13,7 +13,7 @@ use Rattle.mlog_files.specs.Laws.{HasCut}
 use Rattle.mlog_files.proofs.Goings.{steps_on-append, byte_open, byte_cut}
 use Rattle.mlog_files.proofs.Putting.{room_left}
 
--- One byte more before a piece.
+-- One more byte before a piece.
 full_more : (size n : ℕ) (s t : Sent) (rest : List Sent) → is_full size n (s ∷ t ∷ rest)
     ≡ is_full size (n + 1) (t ∷ rest)
 full_more size n s t rest =
@@ -28,7 +28,7 @@ full_one size n s = refl
 not_empty : {A : Type 0} (size n : ℕ) → is_full size n [] ≡ true → A
 not_empty size n is = let e : false ≡ true = is in cc
 
--- no front of a piece but its first byte is full
+-- If no prefix of a piece fills the file, no prefix of its rest fills it after the first byte.
 later_front : (size n : ℕ) (s : Sent) (rest : List Sent) (most : ℕ)
     → ((k : ℕ) → k < most + 1 → is_full size n (take k (s ∷ rest)) ≡ false)
     → most ≤ length rest + 1 → (k : ℕ) → k < most → is_full size (n + 1) (take k rest) ≡ false
@@ -58,7 +58,7 @@ open_tail size n s rest o = (
   },
 )
 
--- A text with which the file is not full is appended.
+-- A text after which the file is not full is appended.
 open_text : (size keep : ℕ) (log : Standing) (rest : List Sent) → log.count < size → IsOpen size log.count rest
     → steps_on size keep (Some log) rest ≡ appends rest
 open_text size keep log [] room o = refl
@@ -82,7 +82,7 @@ piece_text size keep log (s ∷ t ∷ rest) room p =
     let later = piece_text size keep now (t ∷ rest) (room_left size log.count 1 _ tail.0) tail.1 in
     (one.0 ∙ ap (λ (xs : List Step). Append s.byte ∷ xs) later.0, one.1 ∙ later.1)
 
--- what comes after a piece, by the label that it gets
+-- what comes after a piece, by the label that the piece gets
 after_piece : (size keep : ℕ) (marks : Marks) (piece : List Sent) (pieces : List (List Sent)) (rest later : List Sent)
     (label : Option Tai64n)
     → ((given : Tai64n) → steps_on size keep (Some (begun keep marks given)) later

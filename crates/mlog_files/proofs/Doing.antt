@@ -45,7 +45,7 @@ Does-then {o} {p} {q} {log} {a} {b} d e = record {
   stays = Stays-then d.stays e.stays;
 }
 
--- A front of steps that come after others.
+-- A prefix of steps that come after others.
 pub Does-front : {o p q : StoreState} {log : ℕ} {a : List Step} (b : List Step) → Does o p log a → DoesFront p q log b
     → DoesFront o q log (a ++ b)
 Does-front {o} {p} {q} {log} {a} b d e = record {
@@ -72,7 +72,7 @@ front_stays {X} a b n =
     ∙ append_assoc (take n a) (drop n a) b)
     ∙ take-append_seam (take n a) (drop n a ++ b))
 
--- A front of steps is one of more steps.
+-- A prefix of steps is a prefix of more steps.
 pub DoesFront-more : {o q : StoreState} {log : ℕ} {a : List Step} (b : List Step) → DoesFront o q log a
     → DoesFront o q log (a ++ b)
 DoesFront-more {o} {q} {log} {a} b e = record {
@@ -113,7 +113,7 @@ none_appended {p} {q} {log} piece count d none some = record {
   rose = d.none none some;
 }
 
--- All of some steps is a front of more.
+-- All of some steps are a prefix of more.
 pub Does-more : {o q : StoreState} {log : ℕ} {a : List Step} (b : List Step) → Does o q log a
     → DoesFront o q log (a ++ b)
 Does-more {o} {q} {log} {a} b d = record {
@@ -129,7 +129,7 @@ pub Goes-held : {o : StoreState} {log : ℕ} (waited bytes : List ℕ) → Does 
     → Goes o o log waited (waited ++ bytes) (append_steps bytes)
 Goes-held waited bytes d = record { done = []; does = d; whole = appended waited bytes }
 
--- What waited is appended, and the bytes wait.
+-- The bytes that waited are appended, and the new bytes wait.
 pub Goes-out : {o q : StoreState} {log : ℕ} (waited now bytes : List ℕ) → Does o q log (append_steps waited)
     → now ≡ bytes
     → Goes o q log waited now (append_steps bytes)
@@ -186,7 +186,7 @@ pub Goes-does : {o p q : StoreState} {log : ℕ} {a b : List ℕ} {xs : List Ste
 Goes-does {o} {p} {q} {log} {a} {b} {xs} ys g h =
     subst (λ (t : List Step). Does o q log t) (joined ys g) (Does-then g.does h)
 
--- A finish under the label that the reading gives, after what waited.
+-- A file is finished under the label from the reading, after the bytes that waited.
 pub finish_done : {o p q : StoreState} {log : ℕ} (keep : ℕ) (marks : Marks) (reading label : Tai64n) (waited : List ℕ)
     → label_given marks.last reading ≡ Some label → Does o p log (append_steps waited)
     → Does p q log (finish_steps keep marks label)

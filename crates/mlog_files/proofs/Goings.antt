@@ -1,4 +1,4 @@
--- A log that goes on.
+-- A log that continues.
 use Rattle.std.proofs.Common.{◌≡◌, ℕ, zero, suc, ◌+◌, ◌-◌, ◌<◌, ◌≤◌, ◌==◌, nat_le, Bool, true, false, List, [], ◌∷◌}
 use Rattle.std.proofs.Common.{◌++◌, length, take, drop, get_or, Option, Some, None, inl, inr, refl, sym, subst, ap, ◌∙◌}
 use Rattle.std.proofs.Common.{arith, append_assoc, append-nil}
@@ -40,7 +40,7 @@ standing_on-append size keep (Some log) [] ys = refl
 standing_on-append size keep (Some log) (s ∷ xs) ys =
     standing_on-append size keep (after_byte size keep (ready size keep log s.reading) s) xs ys
 
--- One byte, by what is done before it.
+-- One byte, with what is done before it.
 pub step_is : (size keep : ℕ) (log : Standing) (s : Sent) (text : List Sent) (first : List Step) (now : Option Standing)
     → first_steps size keep log s.reading ≡ first → ready size keep log s.reading ≡ now
     → (steps_on size keep (Some log) (s ∷ text) ≡ first ++ byte_steps size keep now s
@@ -67,7 +67,7 @@ in_room : (size keep : ℕ) (log : Standing) (s : Sent) (text : List Sent) → l
 in_room size keep log s text room =
     let e = not_over size keep log s.reading room in step_is size keep log s text [] (Some log) e.0 e.1
 
--- One byte, with which the file is not full.
+-- One byte, after which the file is not full.
 pub byte_open : (size keep : ℕ) (log : Standing) (s : Sent) (text : List Sent) → log.count < size
     → fills size (log.count + 1) (s.byte == 10) ≡ false
     → (steps_on size keep (Some log) (s ∷ text) ≡ Append s.byte
@@ -84,7 +84,7 @@ byte_open size keep log s text room open_yet =
       one.1 ∙ ap (λ (r : Option Standing). standing_on size keep r text) later,
     )
 
--- One byte, with which the file is full.
+-- One byte, after which the file is full.
 pub byte_cut : (size keep : ℕ) (log : Standing) (s : Sent) → log.count < size
     → fills size (log.count + 1) (s.byte == 10) ≡ true
     → (steps_on size keep (Some log) (s ∷ []) ≡ Append s.byte ∷ finish_at keep log.marks s.reading)
@@ -99,7 +99,7 @@ byte_cut size keep log s room full =
       one.1 ∙ standing_on-none size keep (after_byte size keep (Some log) s) ∙ later,
     )
 
--- what is known of the bytes behind the first
+-- what is known of the bytes after the first
 later_bytes : (size count b : ℕ) (bs : List ℕ) (truth : Bool) (k : ℕ) → 0 < k
     → fills size (count + suc k) (get_or (b ∷ bs) (suc k - 1) 0 == 10) ≡ truth
     → fills size (count + 1 + k) (get_or bs (k - 1) 0 == 10) ≡ truth
@@ -112,7 +112,7 @@ later_bytes size count b bs truth (suc k) some is =
     (subst (λ (n : ℕ). fills size n (get_or bs k 0 == 10) ≡ truth) sum
     (subst (λ (i : ℕ). fills size (count + suc (suc k)) (get_or (b ∷ bs) i 0 == 10) ≡ truth) before is))
 
--- Bytes with which the file is not full.
+-- Bytes after which the file is not full.
 pub bytes_open : (size keep : ℕ) (log : Standing) (reading : Tai64n) (bytes : List ℕ) → log.count + length bytes < size
     → ((k : ℕ) → 0 < k → k ≤ length bytes → fills size (log.count + k) (get_or bytes (k - 1) 0 == 10) ≡ false)
     → (steps_on size keep (Some log) (sent reading bytes) ≡ append_steps bytes)
@@ -133,7 +133,7 @@ bytes_open size keep log reading (b ∷ bs) room none =
       one.1 ∙ later.1 ∙ ap (λ (n : ℕ). Some (record { count = n; marks = log.marks })) sum,
     )
 
--- Bytes with which the file is full, and with no front of them.
+-- Bytes after which the file is full, and after no shorter prefix of them.
 pub bytes_cut : (size keep : ℕ) (log : Standing) (reading : Tai64n) (bytes : List ℕ) → 0 < length bytes
     → log.count + length bytes ≤ size
     → ((k : ℕ) → 0 < k → k < length bytes → fills size (log.count + k) (get_or bytes (k - 1) 0 == 10) ≡ false)
@@ -153,7 +153,7 @@ bytes_cut size keep log reading (b ∷ c ∷ bs) some room none full =
     (later_bytes size log.count b (c ∷ bs) true (suc (length bs)) (omega arith) full) in
     (one.0 ∙ ap (λ (t : List Step). Append b ∷ t) later.0, one.1 ∙ later.1)
 
--- A front of bytes: what is known of it.
+-- A prefix of bytes: what is known of it.
 front_known : (size count : ℕ) (bytes : List ℕ) (len : ℕ) (truth : Bool) (k : ℕ) → 0 < k → k ≤ len
     → fills size (count + k) (get_or bytes (k - 1) 0 == 10) ≡ truth
     → fills size (count + k) (get_or (take len bytes) (k - 1) 0 == 10) ≡ truth
@@ -161,7 +161,7 @@ front_known size count bytes len truth k some within is =
     subst (λ (b : ℕ). fills size (count + k) (b == 10) ≡ truth)
     (sym (get_or-take len bytes (k - 1) 0 (omega (arith, some, within)))) is
 
--- A front of bytes with which the file is not full.
+-- A prefix of bytes after which the file is not full.
 pub front_open : (size keep : ℕ) (log : Standing) (reading : Tai64n) (bytes : List ℕ) (len : ℕ) → 0 < len
     → len ≤ length bytes → log.count + len < size
     → ((k : ℕ) → 0 < k → k < len → fills size (log.count + k) (get_or bytes (k - 1) 0 == 10) ≡ false)
@@ -181,7 +181,7 @@ front_open size keep log reading bytes len some within room none last =
     ])) in
     (all.0, all.1 ∙ ap (λ (n : ℕ). Some (record { count = log.count + n; marks = log.marks })) long)
 
--- A front of bytes with which the file is full.
+-- A prefix of bytes after which the file is full.
 pub front_cut : (size keep : ℕ) (log : Standing) (reading : Tai64n) (bytes : List ℕ) (len : ℕ) → 0 < len
     → len ≤ length bytes → log.count + len ≤ size
     → ((k : ℕ) → 0 < k → k < len → fills size (log.count + k) (get_or bytes (k - 1) 0 == 10) ≡ false)
@@ -197,7 +197,7 @@ front_cut size keep log reading bytes len some within room none full =
     (subst (λ (n : ℕ). fills size (log.count + n) (get_or (take len bytes) (n - 1) 0 == 10) ≡ true) (sym long)
     (front_known size log.count bytes len true len some (omega arith) full))
 
--- A file that was begun is not over-full.
+-- A new file is not too large.
 after_finish : (size keep : ℕ) (marks : Marks) (label : Option Tai64n) (s : Sent) (text : List Sent) → 0 < size
     → (steps_on size keep (stands_under keep marks label) (s ∷ text)
     ≡ byte_steps size keep (stands_under keep marks label) s
@@ -207,7 +207,7 @@ after_finish : (size keep : ℕ) (marks : Marks) (label : Option Tai64n) (s : Se
 after_finish size keep marks None s text sized = (refl, refl)
 after_finish size keep marks (Some label) s text sized = in_room size keep (begun keep marks label) s text sized
 
--- A file that was found over-full is finished first.
+-- A file that was already too large is finished first.
 pub over_full : (size keep : ℕ) (log : Standing) (s : Sent) (text : List Sent) → 0 < size → size ≤ log.count
     → (steps_on size keep (Some log) (s ∷ text)
     ≡ finish_at keep log.marks s.reading ++ steps_on size keep (finished_at keep log.marks s.reading) (s ∷ text))
@@ -235,7 +235,7 @@ sent-further reading bytes at n =
     ap (sent reading) (take-add at n bytes ∙ ap (λ (t : List ℕ). take at bytes ++ take n t) (sym (take_rest bytes at)))
     ∙ sent-append reading (take at bytes) (take n (take (length bytes - at) (drop at bytes)))
 
--- the bytes that are left of a line
+-- the remaining bytes of a line
 pub sent-rest : (reading : Tai64n) (bytes : List ℕ) (at : ℕ)
     → sent reading bytes ≡ sent reading (take at bytes) ++ sent reading (take (length bytes - at) (drop at bytes))
 sent-rest reading bytes at =
@@ -243,7 +243,7 @@ sent-rest reading bytes at =
     ∙ ap (λ (t : List ℕ). take at bytes ++ t) (sym (take_rest bytes at)))
     ∙ sent-append reading (take at bytes) (take (length bytes - at) (drop at bytes))
 
--- A text that can't fill the current file, whatever its bytes are.
+-- A text that can't fill the current file, with any bytes.
 not_full : (size count : ℕ) (ends : Bool) → count < size - 2000 → fills size count ends ≡ false
 not_full size count ends room =
     let a : nat_le size count ≡ false = grind (arith, room) in

@@ -43,7 +43,7 @@ found_place old olds at d within more kept =
     ∙ ap (λ (t : List Old). take at olds ++ t) step
     ∙ ap (λ (t : List Old). take at olds ++ old ∷ t) (sym cut)
 
--- It is behind all.
+-- The place is after all old files.
 pub last_place : (old : Old) (olds : List Old) → with_old old olds ≡ take (length olds) olds
     ++ with_old old (drop (length olds) olds)
     → with_old old olds ≡ take (length olds) olds ++ old ∷ drop (length olds) olds

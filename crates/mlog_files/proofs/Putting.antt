@@ -44,7 +44,7 @@ pub none_given : (keep : ℕ) (marks : Marks) (label : Option Tai64n) → stands
 none_given keep marks None is = refl
 none_given keep marks (Some label) is = cc
 
--- Where a front of the bytes ends in a finish, or waits.
+-- A prefix of the bytes: after it the file is finished, or its bytes wait.
 record Front (size keep : ℕ) (log : Standing) (reading : Tai64n) (bytes : List ℕ) (len : ℕ) : Type 0 where
   some : 0 < len
   within : len ≤ length bytes
@@ -56,7 +56,7 @@ front_sent : (reading : Tai64n) (bytes : List ℕ) (len : ℕ) → sent reading 
 front_sent reading bytes len = ap (sent reading) (sym (take-append-drop len bytes))
     ∙ sent-append reading (take len bytes) (drop len bytes)
 
--- A front that fills the file.
+-- A prefix that fills the file.
 cut_whole : (size keep : ℕ) (log : Standing) (reading : Tai64n) (bytes : List ℕ) (len : ℕ)
     → Front size keep log reading bytes len
     → fills size (log.count + len) (get_or bytes (len - 1) 0 == 10) ≡ true
@@ -76,7 +76,7 @@ cut_whole size keep log reading bytes len f full =
           (front_sent reading bytes len) one.1,
     )
 
--- A front that doesn't.
+-- A prefix that does not fill the file.
 open_whole : (size keep : ℕ) (log : Standing) (reading : Tai64n) (bytes : List ℕ) (len : ℕ)
     → Front size keep log reading bytes len → log.count + len < size
     → fills size (log.count + len) (get_or bytes (len - 1) 0 == 10) ≡ false
@@ -91,7 +91,7 @@ open_whole size keep log reading bytes len f room last =
     (front_sent reading bytes len) one.1
     ∙ ap (λ (t : List Step). t ++ steps_on size keep (Some now) later) one.0
 
--- The store failed as the front was put.
+-- The store failed while the prefix was put.
 front_failed : {o q : StoreState} {log : ℕ} (waited : List ℕ) (front rest steps : List Step) → steps ≡ front ++ rest
     → Fails o q log (append_steps waited ++ front) → Fails o q log (append_steps waited ++ steps)
 front_failed {o} {q} {log} waited front rest steps e d =
@@ -99,7 +99,7 @@ front_failed {o} {q} {log} waited front rest steps e d =
     ∙ ap (λ (t : List Step). append_steps waited ++ t) (sym e))
     (Fails-more rest d)
 
--- a file has room where it isn't full
+-- a file that is not full has room
 pub room_left : (size count len : ℕ) (ends : Bool) → fills size (count + len) ends ≡ false → count + len < size
 room_left size count len ends is = grind (arith, is)
 
@@ -124,7 +124,7 @@ held_failed {o} {q} {log} size keep from reading bytes len waited false some wit
     front_failed waited (append_steps (take len bytes)) _ (steps_on size keep (Some from) (sent reading bytes))
     (open_whole size keep from reading bytes len f (room_left size from.count len _ is) is) d
 
--- A log goes no further, as the store failed.
+-- A log stops since the store failed.
 pub stops_failed : {o q : StoreState} {log : ℕ} (steps : List Step) (end : Option Standing) → Fails o q log steps
     → StopsOn o q log steps end fault.Store
 stops_failed {o} {q} {log} steps end f = record {
@@ -134,7 +134,7 @@ stops_failed {o} {q} {log} steps end f = record {
   spent = λ is. cc;
 }
 
--- It goes no further, as there is no label.
+-- A log stops since there is no label.
 pub stops_spent : {o q : StoreState} {log : ℕ} (steps more : List Step) (end : Option Standing) → Does o q log steps
     → end ≡ None → more ≡ []
     → StopsOn o q log (steps ++ more) end fault.LabelsSpent
@@ -146,7 +146,7 @@ stops_spent {o} {q} {log} steps more end d none nothing = record {
       (sym (ap (λ (t : List Step). steps ++ t) nothing ∙ append-nil steps)) d;
 }
 
--- It stopped after other steps.
+-- A log stopped after other steps.
 pub stops_then : {o p q : StoreState} {log : ℕ} {a b : List ℕ} {xs : List Step} {end : Option Standing} {why : LogFault}
     (ys steps : List Step) (last : Option Standing)
     → Goes o p log a b xs → steps ≡ xs ++ ys → last ≡ end → StopsOn p q log (append_steps b ++ ys) end why
@@ -158,7 +158,7 @@ stops_then {o} {p} {q} {log} {a} {b} {xs} ys steps last g e same s = record {
   spent = λ is. subst (λ (t : List Step). Does o q log (append_steps a ++ t)) (sym e) (Goes-does ys g (s.spent is));
 }
 
--- It stopped before the steps of a text.
+-- A log stopped before the steps of a text.
 pub stops_before : {o q : StoreState} {log : ℕ} {now : Option Standing} {why : LogFault} (waited : List ℕ)
     (first : List Step) (size keep : ℕ) (text : List Sent)
     (steps : List Step) (end : Option Standing) → steps ≡ first ++ steps_on size keep now text
@@ -224,7 +224,7 @@ open_done {o} {p} {log} size keep from reading bytes len waited waits some withi
     (sym (front_open size keep from reading bytes len some within (room_left size from.count len _ last) before last).0)
     g
 
--- A file that was found over-full: what is done before the bytes.
+-- A file that was already too large: what is done before the bytes.
 pub over_steps : (size keep size' keep' : ℕ) (from : Standing) (now : Option Standing) (reading : Tai64n)
     (bytes : List ℕ) → 0 < size → size ≤ from.count
     → 0 < length bytes → size' ≡ size → keep' ≡ keep → finished_at keep from.marks reading ≡ now

@@ -15,8 +15,8 @@ pub record Files : Type 0 where
   pub current : List ℕ
   pub olds : List Old
 
--- One byte is appended to the current file; or it becomes the old file of this label, and a new one is begun; or the
--- old file whose name is smallest is removed.
+-- One step: a byte is appended to the current file; the current file becomes the old file of this label, and a new one
+-- begins; or the old file with the smallest name is removed.
 pub data Step : Type 0 where
   Append : ℕ → Step
   Finish : Tai64n → Step
@@ -36,7 +36,7 @@ is_remove Remove = true
 abbrev pub old_name : Tai64n → List ℕ
 old_name label = label_text label ++ codes ".s"
 
--- the old files with one more, before the first whose name is not smaller
+-- the old files with one more, which comes before the first name that is not smaller
 abbrev pub with_old : Old → List Old → List Old
 with_old old [] = old ∷ []
 with_old old (first ∷ olds) =

@@ -1,4 +1,4 @@
--- How a log goes on, byte by byte. The law `steps_of_a_text` says that these are the steps of the text's cut.
+-- How a log continues, byte by byte. The law `steps_of_a_text` says that these are the steps of the text's cut.
 use Rattle.std.specs.Prelude.{ℕ, ◌+◌, ◌==◌, nat_le, if◌then◌else◌, List, [], ◌∷◌, ◌++◌, Option, Some, None}
 use Rattle.tai_status.specs.Label.{Tai64n}
 use Rattle.tai_status.specs.Lines.{Sent}
@@ -6,21 +6,21 @@ use Rattle.mlog_files.specs.Cut.{fills}
 use Rattle.mlog_files.specs.Files.{Step, Append}
 use Rattle.mlog_files.specs.Steps.{Marks, label_given, finish_steps, marks_after}
 
--- how many bytes the current file has, and the marks
+-- the state of a log's end: how many bytes the current file has, and the marks
 pub record Standing : Type 0 where
   pub count : ℕ
   pub marks : Marks
 
--- the steps of a finish under this label, where there is one
+-- the steps of finishing a file under this label, if there is one
 abbrev pub finish_under : ℕ → Marks → Option Tai64n → List Step
 finish_under keep marks None = []
 finish_under keep marks (Some label) = finish_steps keep marks label
 
--- where a log stands after a finish under a label
+-- the state of a log after it finished a file under a label
 abbrev pub begun : ℕ → Marks → Tai64n → Standing
 begun keep marks label = record { count = 0; marks = marks_after keep marks label }
 
--- where it stands after a finish, where there is a label: else nowhere, since it goes no further
+-- the same, if there is a label; without one there is no state, since the log stops
 abbrev pub stands_under : ℕ → Marks → Option Tai64n → Option Standing
 stands_under keep marks None = None
 stands_under keep marks (Some label) = Some (begun keep marks label)
@@ -31,16 +31,16 @@ finish_at keep marks reading = finish_under keep marks (label_given marks.last r
 abbrev pub finished_at : ℕ → Marks → Tai64n → Option Standing
 finished_at keep marks reading = stands_under keep marks (label_given marks.last reading)
 
--- The steps of a rotation: the current file is finished under the label that a reading gives. An empty one is left
+-- The steps of a rotation: the current file is finished, under the label from a clock reading. An empty file is left
 -- alone.
 abbrev pub rotate_steps : ℕ → Standing → Tai64n → List Step
 rotate_steps keep log reading = if log.count == 0 then [] else finish_at keep log.marks reading
 
--- where the log stands after it
+-- the state of the log after a rotation
 abbrev pub rotated : ℕ → Standing → Tai64n → Option Standing
 rotated keep log reading = if log.count == 0 then Some log else finished_at keep log.marks reading
 
--- A byte is appended, and finishes a file that is full with it.
+-- A byte is appended. If the file is then full, it is finished.
 abbrev pub byte_steps : ℕ → ℕ → Option Standing → Sent → List Step
 byte_steps size keep None s = []
 byte_steps size keep (Some log) s =
@@ -53,7 +53,7 @@ after_byte size keep (Some log) s =
     if fills size (log.count + 1) (s.byte == 10) then finished_at keep log.marks s.reading
     else Some (record { count = log.count + 1; marks = log.marks })
 
--- A file that was found with its size or more is finished before the byte.
+-- A file that already has its size or more is finished before the byte.
 abbrev pub first_steps : ℕ → ℕ → Standing → Tai64n → List Step
 first_steps size keep log reading = if nat_le size log.count then finish_at keep log.marks reading else []
 
@@ -69,7 +69,7 @@ steps_on size keep (Some log) (s ∷ text) =
     ++ byte_steps size keep (ready size keep log s.reading) s
     ++ steps_on size keep (after_byte size keep (ready size keep log s.reading) s) text
 
--- where a log stands after a text
+-- the state of a log after a text
 abbrev pub standing_on : ℕ → ℕ → Option Standing → List Sent → Option Standing
 standing_on size keep None text = None
 standing_on size keep (Some log) [] = Some log

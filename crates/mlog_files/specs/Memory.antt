@@ -9,7 +9,7 @@ pub record Memory : Type 0 where
   pub alerts : List ℕ
   pub failures : ℕ
 
--- It shows all of it, and asks for no folder.
+-- A store in memory shows all that it holds, and asks for no folder.
 abbrev pub state_of : Memory → StoreState
 state_of memory = record {
   logs = length memory.logs;

@@ -6,11 +6,11 @@ use Rattle.tai_status.specs.Label.{Tai64n, is_earlier}
 use Rattle.tai_status.specs.Reading.{from_text}
 use Rattle.mlog_files.specs.Files.{Old}
 
--- The label in a name: the one that its first 25 bytes spell, where they spell one.
+-- The label in a name: the one that its first 25 bytes spell, if they spell one.
 abbrev pub label_in : List ℕ → Option Tai64n
 label_in name = result_ok (from_text (take 25 name))
 
--- the later of two labels, of which either may be missing
+-- the later of two labels; one or both may be missing
 abbrev pub later_of : Option Tai64n → Option Tai64n → Option Tai64n
 later_of None b = b
 later_of (Some a) None = Some a

@@ -4,15 +4,15 @@ use Rattle.std.specs.Io.KnownBytes.{Appends}
 use Rattle.tai_status.specs.Counted.{Rose}
 use Rattle.mlog_files.specs.Files.{Files, Step, files_after, append_steps}
 
--- What a store shows, as far as it shows it: the files of each log, the contents that each status file was given, in
--- order, and all alerts.
+-- What a store shows: the files of each log, the contents that each status file was given, in order, and all alerts. It
+-- may show only some of these.
 pub record Visible : Type 0 where
   pub files : ℕ → Option Files
   pub statuses : ℕ → Option (List (List ℕ))
   pub alerts : Option (List ℕ)
 
--- A store: how many logs and how many status files it has; the folders that it asked the system for, in order, where it
--- shows that; how many of its calls failed; and what it shows.
+-- A store: how many logs and how many status files it has; the folders that it asked the system for, in order, if
+-- visible; how many of its calls failed; and what it shows.
 pub record StoreState : Type 0 where
   pub logs : ℕ
   pub status_files : ℕ
@@ -20,7 +20,7 @@ pub record StoreState : Type 0 where
   pub failures : ℕ
   pub visible : Visible
 
--- a store that shows nothing, with so many logs and status files and failed calls
+-- a store that shows nothing, with these numbers of logs, status files and failed calls
 abbrev pub shows_nothing : ℕ → ℕ → ℕ → StoreState
 shows_nothing logs status_files failures = record {
   logs = logs;
@@ -30,14 +30,14 @@ shows_nothing logs status_files failures = record {
   visible = record { files = λ _. None; statuses = λ _. None; alerts = None };
 }
 
--- The logs and status files are as many as before, no folder was asked for, and no failed call is forgotten.
+-- The numbers of logs and status files are as before, no folder was asked for, and no failed call is forgotten.
 pub record Stays (old new : StoreState) : Type 0 where
   pub logs : new.logs ≡ old.logs
   pub status_files : new.status_files ≡ old.status_files
   pub asked : new.asked ≡ old.asked
   pub steady : old.failures ≤ new.failures
 
--- Files that are visible went through these steps. A store may stop to show them, and doesn't begin again.
+-- Files that are visible went through these steps. A store may stop showing them, and then never resumes.
 abbrev pub Reaches : Option Files → Option Files → List Step → Type 0
 Reaches None None steps = ⊤
 Reaches None (Some new) steps = ⊥
@@ -52,23 +52,25 @@ pub record Does (old new : StoreState) (log : ℕ) (steps : List Step) : Type 0 
   pub alerts : new.visible.alerts ≡ old.visible.alerts
   pub stays : Stays old new
 
--- One log went through a front of these steps, and all else is as before.
+-- One log went through a prefix of these steps, and all else is as before.
 pub record DoesFront (old new : StoreState) (log : ℕ) (steps : List Step) : Type 0 where
   pub count : ℕ
   pub front : Does old new log (take count steps)
 
--- The store failed on a log's way through these steps: a front of them is done, and the failure is counted.
+-- The store failed while a log went through these steps: a prefix of them is done, and the failure is counted.
 pub record Fails (old new : StoreState) (log : ℕ) (steps : List Step) : Type 0 where
   pub front : DoesFront old new log steps
   pub rose : Rose old.failures new.failures
 
--- A log went through steps which, with the bytes that wait afterwards, are these, after the bytes that waited before.
+-- A log went through some steps. They and the bytes that wait afterwards are, together, the bytes that waited before
+-- and then these steps.
 pub record Goes (old new : StoreState) (log : ℕ) (waited waits : List ℕ) (steps : List Step) : Type 0 where
   pub done : List Step
   pub does : Does old new log done
   pub whole : done ++ append_steps waits ≡ append_steps waited ++ steps
 
--- So many bytes of a piece were appended to a log's current file. Where none of some was, a failure is counted.
+-- This many bytes of a piece were appended to a log's current file. If there are bytes and none was appended, a failure
+-- is counted.
 pub record AppendsPart (old new : StoreState) (log : ℕ) (piece : List ℕ) (count : ℕ) : Type 0 where
   pub within : count ≤ length piece
   pub does : Does old new log (append_steps (take count piece))
@@ -79,7 +81,7 @@ pub record FailsAt (old new : StoreState) (log : ℕ) : Type 0 where
   pub nothing : Does old new log []
   pub rose : Rose old.failures new.failures
 
--- A status file that is visible was given these contents, one after another. It goes on being visible.
+-- A status file that is visible was given these contents, one after another. It stays visible.
 abbrev pub WasGiven : Option (List (List ℕ)) → Option (List (List ℕ)) → List (List ℕ) → Type 0
 WasGiven None None contents = ⊤
 WasGiven None (Some new) contents = ⊥
@@ -99,14 +101,14 @@ pub record FailsToReplace (old new : StoreState) (file : ℕ) : Type 0 where
   pub nothing : Replaces old new file []
   pub rose : Rose old.failures new.failures
 
--- This was alerted, and all else is as before.
+-- This text was alerted, and all else is as before.
 pub record Alerts (old new : StoreState) (piece : List ℕ) : Type 0 where
   pub here : Appends old.visible.alerts new.visible.alerts piece
   pub files : new.visible.files ≡ old.visible.files
   pub statuses : new.visible.statuses ≡ old.visible.statuses
   pub stays : Stays old new
 
--- So many bytes of a piece were alerted. Where none of some was, a failure is counted.
+-- This many bytes of a piece were alerted. If there are bytes and none was alerted, a failure is counted.
 pub record AlertsPart (old new : StoreState) (piece : List ℕ) (count : ℕ) : Type 0 where
   pub within : count ≤ length piece
   pub alerts : Alerts old new (take count piece)

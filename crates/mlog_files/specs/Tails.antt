@@ -1,4 +1,4 @@
--- Where a log's end stands.
+-- The state of a log's end.
 use Rattle.std.specs.Prelude.{◌≡◌, ℕ, ◌+◌, ◌-◌, List, ◌++◌, length, Option, Some, None}
 use Rattle.tai_status.specs.Counted.{Rose}
 use Rattle.tai_status.specs.Label.{Tai64n}
@@ -12,7 +12,7 @@ use Rattle.mlog_files.specs.declared.tail.Tail.{Tail}
 use Rattle.mlog_files.specs.declared.tail.LogFault.{LogFault}
 use Rattle.mlog_files.specs.declared.tail.LogFault.TheVariants as fault
 
--- the size that a file of the log has at most
+-- the maximum size of a file of the log
 abbrev pub size_of : Tail → ℕ
 size_of tail = tail.size
 
@@ -24,7 +24,7 @@ keep_of tail = tail.keep
 abbrev pub waiting_in : Tail → List ℕ
 waiting_in tail = tail.waiting
 
--- the greatest label of an old file, how many there are, and how many were finished and removed
+-- the greatest label of an old file, how many old files there are, and how many were finished and removed
 abbrev pub marks_at : Tail → Marks
 marks_at tail = record {
   last = tail.last;
@@ -33,11 +33,11 @@ marks_at tail = record {
   removed = tail.removed;
 }
 
--- how many bytes the current file has, those that wait among them, and the marks
+-- how many bytes the current file has, including those that wait in memory, and the marks
 abbrev pub standing : Tail → Standing
 standing tail = record { count = tail.count; marks = marks_at tail }
 
--- where a log stands that was found with these files
+-- the state of a log that was found with these files
 abbrev pub found : Files → Standing
 found files = record {
   count = length files.current;
@@ -48,31 +48,31 @@ found files = record {
 abbrev pub steps_at : Tail → Tai64n → List ℕ → List Step
 steps_at tail reading bytes = steps_on tail.size tail.keep (Some (standing tail)) (sent reading bytes)
 
--- where the log stands after them; nowhere where there was no label for an old file
+-- the state of the log after them, or none if there was no label for an old file
 abbrev pub after_at : Tail → Tai64n → List ℕ → Option Standing
 after_at tail reading bytes = standing_on tail.size tail.keep (Some (standing tail)) (sent reading bytes)
 
--- how many bytes can come, whatever they are, before the current file can be full
+-- how many bytes can come, with any values, before the current file can be full
 abbrev pub room_in : Tail → ℕ
 room_in tail = tail.size - 2000 - tail.count - 1
 
--- where a log stands whose current file has so many bytes more
+-- the state of a log with this many more bytes in its current file
 abbrev pub longer : Standing → ℕ → Standing
 longer log more = record { count = log.count + more; marks = log.marks }
 
--- A log keeps the size of its files, and how many old ones it has.
+-- A log keeps the size of its files, and the number of old files that it keeps.
 pub record SameLimits (tail now : Tail) : Type 0 where
   pub size : size_of now ≡ size_of tail
   pub keep : keep_of now ≡ keep_of tail
 
--- Bytes of a line with this reading were put: the log went through their steps, but for what waits, and stands after
--- them.
+-- Bytes of a line with this reading were put. The log went through their steps, except for the bytes that wait, and is
+-- in the state after them.
 pub record Puts (old new : StoreState) (log : ℕ) (tail now : Tail) (reading : Tai64n) (bytes : List ℕ) : Type 0 where
   pub goes : Goes old new log (waiting_in tail) (waiting_in now) (steps_at tail reading bytes)
   pub stands : after_at tail reading bytes ≡ Some (standing now)
 
--- A log stopped on its way through some steps, which end there: a front of them is done. The store failed, which is
--- counted; or the end is nowhere, as there is no label for an old file, and all steps before that are done.
+-- A log stopped during some steps: a prefix of them is done. Either the store failed, and the failure is counted; or
+-- there is no label for an old file, and all steps before it are done.
 pub record StopsOn (old new : StoreState) (log : ℕ) (steps : List Step) (end : Option Standing) (why : LogFault)
     : Type 0 where
   pub front : DoesFront old new log steps
@@ -80,11 +80,11 @@ pub record StopsOn (old new : StoreState) (log : ℕ) (steps : List Step) (end :
   pub nowhere : why ≡ fault.LabelsSpent → end ≡ None
   pub spent : why ≡ fault.LabelsSpent → Does old new log steps
 
--- the steps of a finish under the label that a reading gives, with what waits
+-- the steps that finish the current file under the label from a reading, with the bytes that wait
 abbrev pub steps_to_finish : Tail → Tai64n → List Step
 steps_to_finish tail reading = append_steps (waiting_in tail) ++ finish_at (keep_of tail) (marks_at tail) reading
 
--- The current file was not finished, with what waited.
+-- The current file was not finished, with the bytes that waited.
 abbrev pub FinishesUpTo : (old new : StoreState) → ℕ → Tail → Tai64n → LogFault → Type 0
 FinishesUpTo old new log tail reading why = StopsOn old new log (steps_to_finish tail reading)
     (finished_at (keep_of tail) (marks_at tail) reading) why
@@ -94,7 +94,7 @@ abbrev pub RotatesUpTo : (old new : StoreState) → ℕ → Tail → Tai64n → 
 RotatesUpTo old new log tail reading why = StopsOn old new log (rotate_steps (keep_of tail) (standing tail) reading)
     (rotated (keep_of tail) (standing tail) reading) why
 
--- Bytes of a line were not all put, after what waited.
+-- Not all bytes of a line were put, after the bytes that waited.
 abbrev pub PutsUpTo : (old new : StoreState) → ℕ → Tail → Tai64n → List ℕ → LogFault → Type 0
 PutsUpTo old new log tail reading bytes why =
     StopsOn old new log (append_steps (waiting_in tail) ++ steps_at tail reading bytes)

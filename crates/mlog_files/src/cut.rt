@@ -4,7 +4,7 @@ ghost use Rattle.memchr.specs.Find.{IsFirst, Passes, is_byte};
 
 use memchr::memchr;
 
-/// How far below its size a file is full that ends in a newline.
+/// How far below its size a file that ends in a newline is full.
 pub const SLACK: usize = 2000;
 
 /// How many bytes still go into a file, and whether it is full with them.
@@ -14,7 +14,7 @@ pub struct Cut {
     pub is_full: bool,
 }
 
-/// Where bytes are cut that come behind `standing` ones.
+/// Returns the first cut in bytes that come after `standing` earlier ones.
 pub fn first_cut(size: usize, standing: usize, bytes: &[u8]) -> Cut
     requires size { 2000 ≤ size }
     requires room { standing < size }
@@ -42,7 +42,7 @@ pub fn first_cut(size: usize, standing: usize, bytes: &[u8]) -> Cut
     }
 }
 
-/// The first newline from one place up to another.
+/// Returns the first newline from one place up to another.
 fn newline_from(bytes: &[u8], from: usize, to: usize) -> Option<usize>
     requires { to ≤ length bytes.now }
     ensures { IsFirst (Passes (is_byte 10) bytes.now) from to result }

@@ -1,9 +1,9 @@
-//! What is true of the definitions alone, for readers and for the crates above. The function does nothing: its contract
-//! is the law.
+//! Facts about the definitions alone, for readers and for the crates above. The function does nothing: its contract is
+//! the law.
 ghost use Rattle.mlog_files.specs.Laws.{EachIsCut, GoesByItsCut, FinishesAnOverfull, GoesInTurn, CountsItsSteps};
 
-/// How the text of a log goes on, byte by byte, is how its cut says; in parts it goes on as in one; and its counts are
-/// the numbers of its finishes and its removals.
+/// States how the text of a log continues. Byte by byte, it continues as its cut says. In parts, it continues as one
+/// text does. Its counts are the numbers of its finished and its removed files.
 pub fn steps_of_a_text()
     ensures cut { EachIsCut }
     ensures steps { GoesByItsCut }

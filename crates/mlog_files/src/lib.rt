@@ -1,5 +1,5 @@
-//! The files of a log, as multilog keeps them: where the text is cut into files, under which names old files stand, and
-//! which are removed; over any store.
+//! The files of a log, as multilog keeps them: how the text is cut into files, which names old files have, and which
+//! old files are removed. They can be in any store.
 #![tactic(auto)]
 
 mod cut;

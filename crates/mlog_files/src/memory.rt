@@ -36,7 +36,7 @@ impl<A: Allocator> OldFile<A> {
         self.name.as_slice()
     }
 
-    // The label in its name.
+    // Returns the label in the name.
     fn label(&self) -> Option<Label>
         ensures { result ≡ label_in self.now.name }
     {
@@ -59,14 +59,14 @@ impl<A: Allocator> Model for LogFiles<A> {
     ghost view = { λ files. record { current = files.current.items; olds = files.olds.items } };
 }
 
-// Whether a name comes before another, in byte order.
+// Returns whether a name comes before another, in byte order.
 fn is_below(first: &[u8], second: &[u8]) -> bool
     ensures { result ≡ is_lt (slice_cmp nat_cmp first.now second.now) }
 {
     first.cmp(second).is_lt()
 }
 
-// Where an old file of this name comes to stand.
+// Returns the place of an old file with this name.
 fn place_of<A: Allocator>(olds: &[OldFile<A>], name: &[u8]) -> usize
     ensures within { result ≤ length olds.now }
     ensures place { (old : Old) → old.name ≡ name.now
@@ -93,7 +93,7 @@ impl<A: Allocator + Clone> LogFiles<A> {
         self.current.extend_from_slice(piece)
     }
 
-    // Makes the current file the old one of a label.
+    // Makes the current file the old file of a label.
     pub(crate) fn finish(&mut self, label: &Label) -> Result<(), AllocError>
         ensures ok { OnOk result (self.new ≡ step_files (Finish label.now) self.old) }
         ensures err { OnErr result (self.new ≡ self.old) }

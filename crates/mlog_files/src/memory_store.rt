@@ -22,7 +22,7 @@ impl<A: Allocator> Model for Content<A> {
     ghost view = { λ content. content.bytes.items };
 }
 
-/// A status file: the contents that it was given, in order. The last one is what it holds.
+/// A status file: the contents that it was given, in order. The last one is its content.
 #[derive(Drop)]
 pub struct StatusFile<A: Allocator = Global> {
     pub contents: Vec<Content<A>, A>,
@@ -39,7 +39,7 @@ impl<A: Allocator> Model for StatusFile<A> {
 impl<A: Allocator + Clone> StatusFile<A> {
     ghost use Rattle.std.specs.Prelude.{◌≡◌, ◌++◌, ◌∷◌, [], OnOk, OnErr};
 
-    // Gives it a content, where there is memory for it.
+    // Gives a content to the status file, if there is memory for it.
     fn give(&mut self, content: &[u8]) -> Result<(), AllocError>
         ensures ok { OnOk result (self.new ≡ self.old ++ content.now ∷ []) }
         ensures err { OnErr result (self.new ≡ self.old) }
@@ -51,7 +51,7 @@ impl<A: Allocator + Clone> StatusFile<A> {
     }
 }
 
-/// Files of logs, status files and alerts in memory. A call that gets no memory is one that fails.
+/// Files of logs, status files and alerts in memory. A call that runs out of memory fails.
 #[derive(Drop)]
 pub struct MemoryStore<A: Allocator = Global> {
     logs: Vec<LogFiles<A>, A>,
@@ -77,7 +77,7 @@ impl<A: Allocator> MemoryStore<A> {
     ghost use Rattle.std.specs.Prelude.{◌≡◌, ◌≤◌, []};
     ghost use Rattle.tai_status.specs.Counted.{Rose};
 
-    /// A store of these logs and status files, without an alert. It takes no memory.
+    /// Returns a store with these logs and status files, and without an alert. Needs no memory.
     pub fn new(
         alloc: A,
         logs: Vec<LogFiles<A>, A>,
@@ -93,7 +93,7 @@ impl<A: Allocator> MemoryStore<A> {
         }
     }
 
-    /// The logs, the status files and all alerts. It takes no memory.
+    /// Returns the logs, the status files and all alerts. Needs no memory.
     pub fn take_apart(self) -> (Vec<LogFiles<A>, A>, Vec<StatusFile<A>, A>, Vec<u8, A>)
         ensures logs { result.0.items ≡ self.logs }
         ensures statuses { result.1.items ≡ self.statuses }

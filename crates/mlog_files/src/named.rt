@@ -4,10 +4,10 @@ ghost use Rattle.mlog_files.specs.Named.{label_in, later_of};
 
 use tai_status::{Label, read_text};
 
-/// How long a label's text is.
+/// The length of a label's text.
 const LABEL: usize = 25;
 
-// The bytes of a name in which a label may stand.
+// Returns the bytes of a name that may be a label.
 #[tactic(auto, using(crate::proofs::Kept::short_name))]
 fn front(name: &[u8]) -> &[u8]
     ensures { result.now ≡ take 25 name.now }
@@ -18,14 +18,14 @@ fn front(name: &[u8]) -> &[u8]
     &name[..LABEL]
 }
 
-/// The label in a name: the one that its first 25 bytes spell, where they spell one.
+/// Returns the label in a name: the one that its first 25 bytes spell, if they spell one.
 pub fn label_in(name: &[u8]) -> Option<Label>
     ensures { result ≡ label_in name.now }
 {
     read_text(front(name)).ok()
 }
 
-/// The later of two labels, of which either may be missing.
+/// Returns the later of two labels. One or both may be missing.
 pub fn later_of(a: Option<Label>, b: Option<Label>) -> Option<Label>
     ensures { result ≡ later_of a b }
 {

@@ -1,4 +1,4 @@
-//! Where the files of logs lie.
+//! The place of the files of logs.
 ghost use Rattle.std.specs.Prelude.{◌≡◌, ◌<◌, ◌≤◌, length, OnOk, OnErr};
 ghost use Rattle.mlog_files.specs.Files.{append_steps};
 ghost use Rattle.mlog_files.specs.Store.{Does, Fails};
@@ -11,7 +11,7 @@ use thiserror::Error;
 #[error("Store")]
 pub struct StoreFault;
 
-/// The files of logs, by the number of the log, status files, by their number, and where alerts go: over folders, or in
+/// The files of logs by the number of the log, status files by their number, and alerts. They may be in folders or in
 /// memory. A call that fails changed nothing. No call asks the system for a folder.
 pub trait LogStore {
     ghost use Rattle.std.specs.Prelude.{◌≡◌, ◌<◌, ◌∷◌, [], length, IfOk, IfSome, OnOk, OnErr};
@@ -20,11 +20,11 @@ pub trait LogStore {
     ghost use Rattle.mlog_files.specs.Store.{StoreState, Does, AppendsPart, FailsAt, Replaces, FailsToReplace};
     ghost use Rattle.mlog_files.specs.Store.{AlertsPart, FailsToAlert};
 
-    // How many logs and status files there are, which folders were asked for, how many calls failed, and what is
-    // reported.
+    // How many logs and status files there are, which folders were asked for, how many calls failed, and what the store
+    // shows.
     ghost state: { Self → StoreState };
 
-    /// Appends a front of the piece to a log's current file, and says how long it is.
+    /// Appends a prefix of the piece to a log's current file, and returns its length.
     fn append(&mut self, log: usize, piece: &[u8]) -> Result<usize, StoreFault>
         requires { log < (state self.old).logs }
         ensures ok { IfOk result (λ count. AppendsPart (state self.old) (state self.new) log piece.now count) }
@@ -36,7 +36,7 @@ pub trait LogStore {
         ensures ok { OnOk result (Does (state self.old) (state self.new) log (Finish label.now ∷ [])) }
         ensures err { OnErr result (FailsAt (state self.old) (state self.new) log) };
 
-    /// Removes a log's old file whose name is smallest in byte order.
+    /// Removes the old file of a log with the smallest name in byte order.
     fn remove_smallest(&mut self, log: usize) -> Result<(), StoreFault>
         requires { log < (state self.old).logs }
         ensures ok { OnOk result (Does (state self.old) (state self.new) log (Remove ∷ [])) }
@@ -48,22 +48,22 @@ pub trait LogStore {
         ensures ok { OnOk result (Replaces (state self.old) (state self.new) file (content.now ∷ [])) }
         ensures err { OnErr result (FailsToReplace (state self.old) (state self.new) file) };
 
-    /// Alerts a front of the piece, and says how long it is.
+    /// Alerts a prefix of the piece, and returns its length.
     fn alert(&mut self, piece: &[u8]) -> Result<usize, StoreFault>
         ensures ok { IfOk result (λ count. AlertsPart (state self.old) (state self.new) piece.now count) }
         ensures err { OnErr result (FailsToAlert (state self.old) (state self.new)) };
 
-    /// How many bytes a log's current file has.
+    /// Returns how many bytes a log's current file has.
     fn length(&self, log: usize) -> u64
         requires { log < (state self.now).logs }
         ensures { IfSome ((state self.now).visible.files log) (λ files. result ≡ length files.current) };
 
-    /// How many old files a log has.
+    /// Returns how many old files a log has.
     fn old_count(&self, log: usize) -> u64
         requires { log < (state self.now).logs }
         ensures { IfSome ((state self.now).visible.files log) (λ files. result ≡ length files.olds) };
 
-    /// The greatest label in the names of a log's old files.
+    /// Returns the greatest label in the names of a log's old files.
     fn last_label(&self, log: usize) -> Option<Label>
         requires { log < (state self.now).logs }
         ensures { IfSome ((state self.now).visible.files log) (λ files. result ≡ greatest_label files.olds) };

@@ -1,4 +1,4 @@
-//! The end of a log, where its text goes on.
+//! The end of a log, to which its text is added.
 ghost use Rattle.std.specs.Prelude.{◌≡◌, ◌≤◌, ◌<◌, ◌++◌, [], OnOk, OnErr, Some};
 ghost use Rattle.mlog_files.specs.Files.{append_steps};
 ghost use Rattle.mlog_files.specs.Steps.{label_given};
@@ -9,7 +9,7 @@ use crate::store::{LogStore, StoreFault, append_all};
 use tai_status::{BLOCK, Block, Label};
 use thiserror::Error;
 
-/// Why a log goes no further.
+/// Why a log stops.
 #[derive(Clone, Copy, Debug, PartialEq, Eq, Error)]
 pub enum LogFault {
     /// The store failed.
@@ -20,8 +20,8 @@ pub enum LogFault {
     LabelsSpent,
 }
 
-/// How far a log has come: how many bytes its current file has, those that wait in memory among them, how many old
-/// files there are, the greatest label of one, and how many were finished and removed.
+/// The state of a log's end: the bytes in its current file, including those that wait in memory; the number of old
+/// files; the greatest label of one; and how many were finished and removed.
 #[derive(Drop)]
 pub struct Tail {
     size: usize,
@@ -36,7 +36,7 @@ pub struct Tail {
     ghost keeps: { 2 ≤ keep },
 }
 
-// The label of an old file, where there is one.
+// Returns the label for an old file, if there is one.
 fn label_for(last: &Option<Label>, reading: &Label) -> Option<Label>
     ensures { result ≡ label_given last.now reading.now }
 {
@@ -46,7 +46,7 @@ fn label_for(last: &Option<Label>, reading: &Label) -> Option<Label>
     }
 }
 
-// The reading, or the next label past the last one.
+// Returns the reading, or the label after the last one.
 fn label_past(last: &Label, reading: &Label) -> Option<Label>
     ensures { result ≡ label_given (Some last.now) reading.now }
 {
@@ -59,7 +59,7 @@ fn label_past(last: &Label, reading: &Label) -> Option<Label>
     }
 }
 
-// Appends what waits.
+// Appends the bytes that wait.
 fn write_out<S: LogStore>(waiting: &mut Block, store: &mut S, log: usize) -> Result<(), StoreFault>
     requires { log < (S.state store.old).logs }
     ensures ok { OnOk result (Does (S.state store.old) (S.state store.new) log (append_steps waiting.old)) }
@@ -71,7 +71,7 @@ fn write_out<S: LogStore>(waiting: &mut Block, store: &mut S, log: usize) -> Res
     Ok(())
 }
 
-// Puts a piece behind what waits, which is appended first where there is no room.
+// Adds a piece after the bytes that wait. They are appended first if there is no room.
 fn hold<S: LogStore>(
     waiting: &mut Block,
     store: &mut S,
@@ -107,7 +107,7 @@ impl Tail {
     ghost use Rattle.mlog_files.specs.Tails.{PutsUpTo, RotatesUpTo};
     ghost use Rattle.mlog_files.specs.declared.tail.LogFault.TheVariants as fault;
 
-    /// The end of a log as the store holds it.
+    /// Returns the end of a log as the store has it.
     pub fn open<S: LogStore>(store: &S, log: usize, size: usize, keep: u64) -> Tail
         requires log { log < (S.state store.now).logs }
         requires size { 2000 ≤ size }
@@ -128,21 +128,21 @@ impl Tail {
         }
     }
 
-    /// How many old files were finished since the log was opened. The count stops at `u64::MAX`.
+    /// Returns how many old files were finished since the log was opened. The count stops at `u64::MAX`.
     pub fn finished(&self) -> u64
         ensures { result ≡ (marks_at self.now).finished }
     {
         self.finished
     }
 
-    /// How many old files were removed since the log was opened. The count stops at `u64::MAX`.
+    /// Returns how many old files were removed since the log was opened. The count stops at `u64::MAX`.
     pub fn removed(&self) -> u64
         ensures { result ≡ (marks_at self.now).removed }
     {
         self.removed
     }
 
-    // Finishes the current file, and removes an old one where there are as many as are kept.
+    // Finishes the current file, and removes an old file if there are as many as are kept.
     fn finish_under<S: LogStore>(
         &mut self,
         store: &mut S,
@@ -171,7 +171,7 @@ impl Tail {
         Ok(())
     }
 
-    // Finishes the current file, with what waits.
+    // Finishes the current file, with the bytes that wait.
     fn finish<S: LogStore>(
         &mut self,
         store: &mut S,
@@ -201,8 +201,8 @@ impl Tail {
         }
     }
 
-    /// Finishes the current file on request, under the label that a reading gives or the next one past the greatest.
-    /// An empty one is left alone. Nothing may wait in memory. After a fault the log goes no further.
+    /// Finishes the current file on request, under the label from a clock reading, or under the label after the
+    /// greatest one. An empty file is left alone. No bytes may wait in memory. After a fault the log stops.
     pub fn rotate<S: LogStore>(
         &mut self,
         store: &mut S,
@@ -226,7 +226,7 @@ impl Tail {
         self.finish(store, log, reading)
     }
 
-    // Puts a front of a line's bytes into a current file that has room, and says how long it is.
+    // Puts a prefix of a line's bytes into a current file that has room, and returns its length.
     fn put_open<S: LogStore>(
         &mut self,
         store: &mut S,
@@ -257,7 +257,7 @@ impl Tail {
         Ok(cut.len)
     }
 
-    // Puts a front of a line's bytes. A file that was found over-full is finished first.
+    // Puts a prefix of a line's bytes. A file that was already too large is finished first.
     fn put_part<S: LogStore>(
         &mut self,
         store: &mut S,
@@ -281,9 +281,11 @@ impl Tail {
         self.put_open(store, log, reading, bytes)
     }
 
-    /// Puts bytes of one line behind the log's text, in as many calls as the caller likes: the line's reading names the
-    /// old files that these bytes fill. Up to a block of them may wait in memory afterwards, until the next call or
-    /// [`Tail::flush`]. After a fault the log goes no further, and what waited is not to be put again.
+    /// Adds bytes of one line to the log's text. A line may be put in any number of calls. The clock reading of the
+    /// line gives the names of the old files that these bytes fill.
+    ///
+    /// Up to a block of the bytes may wait in memory until the next call or [`Tail::flush`]. After a fault the log
+    /// stops; don't put the bytes that waited again.
     pub fn put<S: LogStore>(
         &mut self,
         store: &mut S,
@@ -305,7 +307,7 @@ impl Tail {
         Ok(())
     }
 
-    /// How many bytes can come, whatever they are, before the current file can be full.
+    /// Returns how many bytes can come, with any values, before the current file can be full.
     pub fn room(&self) -> usize
         ensures { result ≡ room_in self.now }
     {
@@ -314,8 +316,8 @@ impl Tail {
             .saturating_sub(1)
     }
 
-    /// Puts bytes that can't fill a file behind the log's text, of whatever lines they are. They may wait as those of
-    /// [`Tail::put`]. After a fault the log goes no further.
+    /// Adds bytes that can't fill a file to the log's text, from any lines. They may wait as those of [`Tail::put`] do.
+    /// After a fault the log stops.
     pub fn put_within<S: LogStore>(
         &mut self,
         store: &mut S,
@@ -341,7 +343,7 @@ impl Tail {
         }
     }
 
-    /// Appends what waits in memory.
+    /// Appends the bytes that wait in memory.
     pub fn flush<S: LogStore>(&mut self, store: &mut S, log: usize) -> Result<(), LogFault>
         requires log { log < (S.state store.old).logs }
         ensures done { OnOk result

@@ -112,7 +112,7 @@ alerted_no_further a b c flags k flag front within is k' l =
 
 -- Status files
 
--- What one status file was given, each was given.
+-- If one status file was given contents, each status file was given these or none.
 given_at : (a b : StoreState) (k n : ℕ) (contents : List (List ℕ)) (t : Bool) → (n == k) ≡ t
     → Replaces a b k contents
     → WasGiven (a.visible.statuses n) (b.visible.statuses n) (if n == k then contents else [])

@@ -1,4 +1,4 @@
--- A line that is decided on: alerts, status files and logs.
+-- A line that is decided: alerts, status files and logs.
 use Rattle.std.proofs.Common.{◌≡◌, ℕ, if◌then◌else◌, Bool, List, [], ◌∷◌, ◌++◌, Option, refl, sym, subst, ◌∙◌}
 use Rattle.std.proofs.Common.{append-nil}
 use Rattle.std.specs.Prelude.{slice_get}
@@ -57,7 +57,7 @@ files_given tails a b flags content k = record {
   steady = k.stays.steady;
 }
 
--- Status files could not be replaced.
+-- The status files could not be replaced.
 pub decided_half : (tails now : List Tail) (a b c : StoreState) (script : List Act) (label : Tai64n)
     (front kept text : List ℕ) (flags files : List Bool)
     → flags ≡ (chosen script front).alerts → files ≡ (chosen script front).files → kept ≡ front
@@ -123,7 +123,7 @@ decided_stopped tails tails2 now a b c d script label front kept text put alerts
     (files_given tails b c _ _ r1)) l1)
     (given_so script label front text)
 
--- The logs took it.
+-- The logs took the line.
 pub decided_takes : (tails tails2 now : List Tail) (a b c d : StoreState) (script : List Act) (label : Tai64n)
     (front kept text put : List ℕ) (alerts files logs : List Bool)
     → tails2 ≡ tails → kept ≡ front → put ≡ text → alerts ≡ (chosen script front).alerts

@@ -21,19 +21,19 @@ shown_by : (b : Bool) (label : Tai64n) (line more : List ℕ)
 shown_by true label line more = sym (append_assoc (stamp label) line more)
 shown_by false label line more = refl
 
--- Bytes are shown as they come.
+-- Bytes are shown in the order in which they come.
 pub shown-append : (script : List Act) (label : Tai64n) (line more : List ℕ) → shown script label (line ++ more)
     ≡ shown script label line ++ more
 shown-append script label line more = shown_by (stamps script) label line more
 
--- Later bytes leave the first ones.
+-- Later bytes do not change the first ones.
 first_stay : (n : ℕ) (xs ys : List ℕ) → n ≤ length xs → take n (xs ++ ys) ≡ take n xs
 first_stay n xs ys few = take-append-le n xs ys few
 
 take_first : (n k : ℕ) (xs ys : List ℕ) → n ≤ k → k ≤ length xs → take n (xs ++ ys) ≡ take n xs
 take_first n k xs ys less few = first_stay n xs ys (omega (arith, less, few))
 
--- Where a line is selected
+-- The outputs at which a line is selected
 
 pub same_chosen : (script : List Act) (label : Tai64n) (line more : List ℕ) → 1000 ≤ length (shown script label line)
     → chosen_line script label (line ++ more) ≡ chosen_line script label line
@@ -55,7 +55,7 @@ file_as file text c = if flag_at c.files file then text ∷ [] else []
 padded_front : List ℕ → List ℕ
 padded_front front = front ++ replicate (1001 - length front) 10
 
--- A line that is decided on goes on.
+-- A line that is decided continues.
 pub line_goes_on : (script : List Act) (label : Tai64n) (line more : List ℕ) → 1000 ≤ length (shown script label line)
     → SameGiven (joined (of_front script label line) (to_logs (chosen_line script label line).logs label more))
     (of_front script label (line ++ more))
@@ -81,7 +81,7 @@ line_goes_on script label line more long =
           ∙ ap (λ (t : List ℕ). file_as file t (chosen_line script label line)) content);
     }
 
--- It ends.
+-- The line ends.
 pub line_ends : (script : List Act) (label : Tai64n) (line : List ℕ)
     → SameGiven (joined (of_front script label line) (to_logs (chosen_line script label line).logs label (10 ∷ [])))
     (of_line script label line)
@@ -115,7 +115,7 @@ line_is_decided script label line front is few =
           ∙ ap (λ (t : List ℕ). file_as file (padded t) (chosen_line script label line)) is;
     }
 
--- So far
+-- A line up to now
 
 pub kept_so_far : (script : List Act) (label : Tai64n) (line front : List ℕ) → front ≡ shown script label line
     → length front < 1000
@@ -144,7 +144,7 @@ kept_on o script label line front more is few fewer =
 from_nothing : (m y : Given) → SameGiven m y → SameGiven (joined nothing m) y
 from_nothing m y s = record { logs = s.logs; alerts = s.alerts; files = s.files }
 
--- A kept front is decided on, with bytes behind it.
+-- A kept front is decided, with bytes after it.
 pub decides_at : (o n : Outputs) (script : List Act) (label : Tai64n) (line front line1 front1 : List ℕ)
     → front ≡ shown script label line → length front < 1000
     → front1 ≡ shown script label line1 → length front1 ≤ 1000 → Takes o n (of_chosen script label front1)
@@ -171,7 +171,7 @@ decides_stopped o n script label line front line1 front1 why is few is1 few1 k =
       stops = k;
     })
 
--- Further bytes of a line that is decided on.
+-- Further bytes of a line that is decided.
 pub goes_at : (o n : Outputs) (script : List Act) (label : Tai64n) (line more : List ℕ) (flags : List Bool)
     → flags ≡ (chosen_line script label line).logs
     → 1000 ≤ length (shown script label line) → Takes o n (to_logs flags label more)
@@ -198,7 +198,7 @@ long_on script label line more long =
     let e = ap length (shown-append script label line more) in let l = length-append (shown script label line) more in
     omega (arith, long, e, l)
 
--- in the words of the router
+-- the same, in the words of the router
 pub decided_goes : (o n : Outputs) (script : List Act) (label : Tai64n) (line more : List ℕ) (flags : List Bool)
     → flags ≡ (chosen_line script label line).logs
     → 1000 ≤ length (shown script label line) → Takes o n (to_logs flags label more)
@@ -240,7 +240,7 @@ end_stops o n script label line flags why is k = record {
   stops = subst (λ (f : List Bool). Stops o n (to_logs f label (10 ∷ [])) why) is k;
 }
 
--- An end that came no further than the decision.
+-- An end that stopped before the decision.
 pub end_undecided : (o n : Outputs) (script : List Act) (label : Tai64n) (line front : List ℕ) (why : LogFault)
     → front ≡ shown script label line → length front < 1000
     → Stops o n (of_chosen script label front) why

@@ -1,4 +1,4 @@
--- Outputs on their way from the one to the other.
+-- Outputs on their way from one given thing to another.
 use Rattle.std.proofs.Common.{ℕ, List, ◌++◌, refl, sym, ap, ◌∙◌, append_assoc, append-nil}
 use Rattle.tai_status.specs.Lines.{Sent}
 use Rattle.mlog_files.specs.declared.tail.LogFault.{LogFault}
@@ -26,7 +26,7 @@ Same-nothing x = record {
   files = λ file. append-nil (x.files file);
 }
 
--- joined the other way
+-- joined in the other order
 pub Same-moved : (x m n : Given) → SameGiven (joined x (joined m n)) (joined (joined x m) n)
 Same-moved x m n = record {
   logs = λ log. sym (append_assoc (x.logs log) (m.logs log) (n.logs log));

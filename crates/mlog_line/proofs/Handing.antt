@@ -36,7 +36,7 @@ pub is_decided : (script : List Act) (d : Bool) (c : Chosen) (front : List ℕ) 
 is_decided script d c front label line is same long =
     subst (λ (d : Bool). IsKeptOrDecided d script c front label line) (sym is) (same, long)
 
--- Bytes of a line that is decided on.
+-- Bytes of a line that is decided.
 pub put_at : (script : List Act) (p : Place) (d : Bool) (c : Chosen) (front : List ℕ) (label : Tai64n)
     (line more : List ℕ) → p.decided ≡ true → d ≡ true → c ≡ p.chosen
     → IsAt script p label line → IsKeptOrDecided d script c front label (line ++ more)
@@ -84,7 +84,7 @@ hold_grows script p label line more o o1 is same few at =
     subst (λ (t : Outputs). Grows o t (so_far script label line) (so_far script label (line ++ more))) (sym same)
     (kept_on o script label line p.front more a.0 a.1 (omega (arith, few, l)))
 
--- What is known once the front is whole.
+-- What is known when the front is complete.
 record Whole (script : List Act) (label : Tai64n) (line first rest bytes front : List ℕ) : Type 0 where
   here : front ≡ shown script label (line ++ first)
   few : length front ≤ 1000
@@ -106,7 +106,7 @@ is_whole_front script p label line first rest bytes front is at made long cut =
       all = append_assoc line first rest ∙ ap (λ (t : List ℕ). line ++ t) cut;
     }
 
--- A front that is put with nothing behind it.
+-- A front that is put with no bytes after it.
 pub plain_takes : {o n : Outputs} (script : List Act) (label : Tai64n) (front : List ℕ)
     → Takes o n (of_put script label front (front ++ [])) → Takes o n (of_chosen script label front)
 plain_takes {o} {n} script label front k =
@@ -232,7 +232,7 @@ pub kept_end_stopped : (script : List Act) (p : Place) (label : Tai64n) (line : 
 kept_end_stopped script p label line o n why is k at =
     let a = at_kept script p label line is at in stops_whole o n script label line p.front why a.0 a.1 k
 
--- A line that begins behind a stamp.
+-- A line that begins after a stamp.
 pub stamped_front : (script : List Act) (label : Tai64n) (front text : List ℕ) → stamps script ≡ true
     → text ≡ label_text label → front ≡ text ++ 32 ∷ [] → length text ≡ 25
     → (front ≡ shown script label []) × (length front < 1000)

@@ -43,7 +43,7 @@ if_none : {X : Type 0} (b : Bool) → ◌≡◌ {A = List X} (if b then [] else 
 if_none true = refl
 if_none false = refl
 
--- The log of a number took a text, and the others are as before.
+-- The log with a number took a text, and the others are as before.
 one_at : (tails now : List Tail) (old new : StoreState) (log other : ℕ) (text : List Sent) (b : Bool)
     → (other == log) ≡ b
     → TakesInAt (slice_get tails log) (slice_get now log) (old.visible.files log) (new.visible.files log) text
@@ -91,7 +91,7 @@ front_here : (tails : List Tail) (log : ℕ) (t : Tail) (a b : Option Files) (te
     → TakesFront t a b text → TakesFrontAt (slice_get tails log) a b text
 front_here tails log t a b text was k = rw was k
 
--- All outputs, where one log took a text.
+-- All outputs, after one log took a text.
 pub one_takes : (tails now : List Tail) (old new : StoreState) (log : ℕ) (t u : Tail) (text : List Sent)
     → slice_get tails log ≡ Some t → slice_get now log ≡ Some u
     → ((n : ℕ) → n ≢ log → slice_get now n ≡ slice_get tails n)
@@ -271,7 +271,7 @@ chosen_further a b c chosen k flag label bytes within is t u =
     (Takes-then a b c (to_logs (take k chosen) label bytes) (to_one k (if flag then sent label bytes else [])) t u)
     (chosen_next chosen k flag label bytes within is)
 
--- Flags that come later change nothing at the earlier ones.
+-- Later flags do not change the earlier ones.
 pub later_flags : {X : Type 0} (flags : List Bool) (k n : ℕ) (text : List X)
     → (rest : List X) × ((if flag_at (take k flags) n then text else []) ++ rest
     ≡ (if flag_at flags n then text else []))

@@ -33,7 +33,7 @@ room_at : (tails : List Tail) (log count : ℕ) (t : Tail) → slice_get tails l
     → HasRoomAt count (slice_get tails log) → count ≤ room_in t
 room_at tails log count t is room = subst (λ (o : Option Tail). HasRoomAt count o) is room
 
--- What a text that has room does.
+-- What a text does that a log has room for.
 steps_are : (t : Tail) (bytes : List ℕ) (text : List Sent) → length bytes ≤ room_in t → bytes_of text ≡ bytes
     → (steps_for t text ≡ append_steps bytes) × (after t text ≡ Some (longer (standing t) (length bytes)))
 steps_are t bytes text room is =

@@ -136,12 +136,12 @@ TakesInAt-none (Some t) a = record {
   keep = refl;
 }
 
--- A front may be nothing.
+-- A prefix may be empty.
 pub TakesFrontAt-none : (t : Option Tail) (a : Option Files) (xs : List Sent) → TakesFrontAt t a a xs
 TakesFrontAt-none None a xs = same_files a
 TakesFrontAt-none (Some t) a xs = record { count = 0; reaches = same_files a }
 
--- What went in is a front of itself.
+-- What went in is a prefix of itself.
 pub TakesFrontAt-whole : (t u : Option Tail) (a b : Option Files) (xs : List Sent) → TakesInAt t u a b xs
     → TakesFrontAt t a b xs
 TakesFrontAt-whole t u a b xs k =
@@ -181,7 +181,7 @@ GivenFront-more a b xs ys f = record {
   front = subst (λ (t : List (List ℕ)). WasGiven a b t) (front_stays xs ys f.count) f.front;
 }
 
--- The first of some contents are a front of them.
+-- The first of some contents are a prefix of them.
 pub GivenFront-of : (a b : Option (List (List ℕ))) (xs rest all : List (List ℕ)) → WasGiven a b xs → xs ++ rest ≡ all
     → GivenFront a b all
 GivenFront-of a b xs rest all k is = record {
@@ -305,7 +305,7 @@ pub if_err_weaker : {T E : Type 0} (r : Result T E) (P R : E → Type 0) → ((e
 if_err_weaker (Ok x) P R f p = tt
 if_err_weaker (Err e) P R f p = f e p
 
--- Whether a call fails or not.
+-- A call fails or not.
 pub either_way : {T E P R : Type 0} (r : Result T E) (Q : E → Type 0) → (P → R) → ((e : E) → Q e → R) → OnOk r P
     → IfErr r Q → R
 either_way (Ok x) Q f h p q = f p
@@ -315,7 +315,7 @@ pub either_so : {T E P Q R : Type 0} (r : Result T E) → (P → R) → (Q → R
 either_so (Ok x) f h p q = f p
 either_so (Err e) f h p q = h q
 
--- Numbers that stay.
+-- A store that does not change.
 
 pub Stays-same : (s : StoreState) → Stays s s
 Stays-same s = record { logs = refl; status_files = refl; asked = refl; steady = omega arith }

@@ -25,11 +25,11 @@ outputs tails store = record { tails = tails; store = store }
 abbrev pub steps_for : Tail → List Sent → List Step
 steps_for tail text = steps_on (size_of tail) (keep_of tail) (Some (standing tail)) text
 
--- where it stands after the text
+-- the state of the log after the text
 abbrev pub after : Tail → List Sent → Option Standing
 after tail text = standing_on (size_of tail) (keep_of tail) (Some (standing tail)) text
 
--- A text went into a log. Some of it may wait.
+-- A text went into a log. Some of it may wait in memory.
 pub record TakesIn (tail now : Tail) (old new : Option Files) (text : List Sent) : Type 0 where
   pub done : List Step
   pub reaches : Reaches old new done
@@ -38,12 +38,12 @@ pub record TakesIn (tail now : Tail) (old new : Option Files) (text : List Sent)
   pub size : size_of now ≡ size_of tail
   pub keep : keep_of now ≡ keep_of tail
 
--- The files of a log went through a front of the steps for a text, after what waited.
+-- The files of a log went through a prefix of the steps for a text, after the bytes that waited.
 pub record TakesFront (tail : Tail) (old new : Option Files) (text : List Sent) : Type 0 where
   pub count : ℕ
   pub reaches : Reaches old new (take count (append_steps (waiting_in tail) ++ steps_for tail text))
 
--- The same of the log of a number. The files of a number that has no log are as before.
+-- The same for the log with a number. If no log has that number, the files are as before.
 abbrev pub TakesInAt : (old new : Option Tail) (was are : Option Files) → List Sent → Type 0
 TakesInAt None None was are text = Reaches was are []
 TakesInAt None (Some now) was are text = ⊥
@@ -54,7 +54,7 @@ abbrev pub TakesFrontAt : Option Tail → (was are : Option Files) → List Sent
 TakesFrontAt None was are text = Reaches was are []
 TakesFrontAt (Some tail) was are text = TakesFront tail was are text
 
--- A status file was given a front of these contents.
+-- A status file was given a prefix of these contents.
 pub record GivenFront (old new : Option (List (List ℕ))) (contents : List (List ℕ)) : Type 0 where
   pub count : ℕ
   pub front : WasGiven old new (take count contents)
@@ -68,7 +68,7 @@ pub record Takes (old new : Outputs) (given : Given) : Type 0 where
       → WasGiven (old.store.visible.statuses file) (new.store.visible.statuses file) (given.files file)
   pub steady : old.store.failures ≤ new.store.failures
 
--- There is no label for an old file that a text fills.
+-- A log has no label for an old file that a text fills.
 abbrev pub IsSpent : Option Tail → List Sent → Type 0
 IsSpent None text = ⊥
 IsSpent (Some tail) text = after tail text ≡ None
@@ -78,8 +78,8 @@ pub record Spends (old : Outputs) (given : Given) : Type 0 where
   pub log : ℕ
   pub spent : IsSpent (slice_get old.tails log) (given.logs log)
 
--- Giving this ended early: each log took a front of the steps, a front was alerted, and each status file was given a
--- front of its contents; and why.
+-- The outputs were not given all of this. Each log took a prefix of its steps, a prefix of the alerts was alerted, and
+-- each status file was given a prefix of its contents; and the reason.
 pub record Stops (old new : Outputs) (given : Given) (why : LogFault) : Type 0 where
   pub logs : (log : ℕ)
       → TakesFrontAt (slice_get old.tails log) (old.store.visible.files log) (new.store.visible.files log)
@@ -90,8 +90,8 @@ pub record Stops (old new : Outputs) (given : Given) (why : LogFault) : Type 0 w
   pub store : why ≡ fault.Store → Rose old.store.failures new.store.failures
   pub spent : why ≡ fault.LabelsSpent → Spends old given
 
--- What a call comes to that gives this to the outputs: all of it was given, or it stopped, and why. The logs and the
--- status files are as many as before.
+-- The outcomes of a call that gives this to the outputs: all of it was given, or the call stopped, with its reason. The
+-- numbers of logs and status files are as before.
 pub record Hands {T : Type 0} (result : Result T LogFault) (tails now : List Tail) (was is : StoreState) (given : Given)
     : Type 0 where
   pub ok : OnOk result (Takes (outputs tails was) (outputs now is) given)
@@ -99,7 +99,7 @@ pub record Hands {T : Type 0} (result : Result T LogFault) (tails now : List Tai
   pub length : length now ≡ length tails
   pub stays : Stays was is
 
--- The same, of bytes that may be those of any text: what a text of them gives.
+-- The same for bytes that may be those of any text: what a text with these bytes gives.
 pub record HandsText {T : Type 0} (result : Result T LogFault) (tails now : List Tail) (was is : StoreState)
     (bytes : List ℕ) (given : List Sent → Given) : Type 0 where
   pub ok : OnOk result ((text : List Sent) → bytes_of text ≡ bytes
@@ -109,19 +109,19 @@ pub record HandsText {T : Type 0} (result : Result T LogFault) (tails now : List
   pub length : length now ≡ length tails
   pub stays : Stays was is
 
--- two that give the same
+-- two that give the same to all outputs
 pub record SameGiven (a b : Given) : Type 0 where
   pub logs : (log : ℕ) → a.logs log ≡ b.logs log
   pub alerts : a.alerts ≡ b.alerts
   pub files : (file : ℕ) → a.files file ≡ b.files file
 
--- Outputs that were given the one have been given the other.
+-- Outputs that were given the first have now been given the second.
 pub record Grows (old new : Outputs) (before now : Given) : Type 0 where
   pub more : Given
   pub whole : SameGiven (joined before more) now
   pub takes : Takes old new more
 
--- They stopped on the way from the one to the other.
+-- The outputs stopped on the way from the first to the second.
 pub record StopsAt (old new : Outputs) (before now : Given) (why : LogFault) : Type 0 where
   pub more : Given
   pub whole : SameGiven (joined before more) now

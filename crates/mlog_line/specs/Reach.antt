@@ -9,13 +9,13 @@ use Rattle.mlog_line.specs.Outputs.{HandsText}
 use Rattle.mlog_line.specs.declared.line_router.Reach.{Reach}
 use Rattle.mlog_line.specs.declared.line_router.Reach.TheVariants as code
 
--- These flags, one for each log, are all set; or none is.
+-- These flags, one for each log, are all set, or none is.
 abbrev pub Reaches : Reach → List Bool → Type 0
 Reaches code.Everywhere flags = list_all (λ flag. flag) flags ≡ true
 Reaches code.Nowhere flags = list_any (λ flag. flag) flags ≡ false
 Reaches code.Somewhere flags = ⊤
 
--- how many of so many logs the lines of a reach go to that is all or none
+-- how many logs the lines of a reach go to, if it is all or none
 abbrev pub logs_in : Reach → ℕ → ℕ
 logs_in code.Everywhere count = count
 logs_in code.Nowhere count = 0
@@ -25,7 +25,7 @@ logs_in code.Somewhere count = 0
 abbrev pub AllOrNone : Reach → Type 0
 AllOrNone reach = reach ≢ code.Somewhere
 
--- What a call comes to that gives bytes to all logs or to none.
+-- The outcomes of a call that gives bytes to all logs or to none.
 abbrev pub HandsAlike : {T : Type 0} (result : Result T LogFault) (tails now : List Tail) (was is : StoreState)
     (bytes : List ℕ) (reach : Reach) → Type 0
 HandsAlike result tails now was is bytes reach =

@@ -7,7 +7,7 @@ ghost use Rattle.mlog_line.specs.Several.{AlertsFront};
 
 use mlog_files::{LogStore, StoreFault};
 
-/// How many bytes of a line an alert has.
+/// How many bytes of a line are in an alert.
 const ALERT: usize = 200;
 
 /// Alerts the whole text.
@@ -26,7 +26,7 @@ fn alert_all<S: LogStore>(store: &mut S, text: &[u8]) -> Result<(), StoreFault>
     Ok(())
 }
 
-/// Alerts a line with this front: its first 200 bytes and a newline.
+/// Alerts the first 200 bytes of a line's front, and a newline.
 fn alert_front<S: LogStore>(store: &mut S, front: &[u8]) -> Result<(), StoreFault>
     ensures ok { OnOk result (Alerts (S.state store.old) (S.state store.new) (alert front.now)) }
     ensures err { OnErr result (AlertsFront (S.state store.old) (S.state store.new) (alert front.now)) }
@@ -37,7 +37,7 @@ fn alert_front<S: LogStore>(store: &mut S, front: &[u8]) -> Result<(), StoreFaul
     alert_all(store, &text[..=len])
 }
 
-/// Alerts a line with this front once for each flag that is set.
+/// Alerts a line with this front, once for each flag that is set.
 pub fn alert_chosen<S: LogStore>(
     store: &mut S,
     chosen: &[bool],
@@ -52,7 +52,7 @@ pub fn alert_chosen<S: LogStore>(
     Ok(())
 }
 
-/// Alerts a line with this front, where it is selected.
+/// Alerts a line with this front, if it is selected.
 fn alert_if<S: LogStore>(store: &mut S, is_chosen: bool, front: &[u8]) -> Result<(), StoreFault>
     ensures ok { OnOk result
         (Alerts (S.state store.old) (S.state store.new) (if is_chosen then alert front.now else [])) }

@@ -1,10 +1,10 @@
-//! How multilog hands out a line: to the logs, the alerts and the status files at which it is selected, however the
-//! line is cut into parts, and with no more of it in memory than its first 1000 bytes.
+//! How multilog hands out a line to the logs, alerts and status files at which it is selected. The line may come in any
+//! parts, and no more of it is in memory than its first 1000 bytes.
 //!
-//! A [`LineRouter`] takes a line by [`LineRouter::begin`], [`LineRouter::put`] as often as its bytes come, and
-//! [`LineRouter::end`]. Its first 1000 bytes are kept until they are there or the line has ended, for it is they that
-//! the patterns see. Then it is decided where the line is selected, and all further bytes go to those logs as they
-//! come.
+//! A [`LineRouter`] takes a line by [`LineRouter::begin`], by [`LineRouter::put`] as often as bytes come, and by
+//! [`LineRouter::end`]. It keeps the line's front, which is the first 1000 bytes, until they are there or the line has
+//! ended, since patterns see these bytes. Then it decides at which outputs the line is selected. All further bytes go
+//! to the selected logs as they come.
 #![tactic(auto)]
 
 mod alerts;

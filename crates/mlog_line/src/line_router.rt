@@ -1,4 +1,4 @@
-//! Where a line is handed out.
+//! A router: it hands out lines.
 ghost use Rattle.std.specs.Prelude.{◌≡◌, ◌≤◌, ◌<◌, [], true, false, length, take, count_by, OnOk, IfOk};
 ghost use Rattle.std.specs.List.{list_all, list_any};
 ghost use Rattle.mlog_script.specs.Script.{is_log, is_file};
@@ -21,14 +21,14 @@ use tai_status::{Block, Label, text};
 /// How many bytes of a line patterns see.
 const FRONT: usize = 1000;
 
-/// Whether all flags are set.
+/// Returns whether all flags are set.
 fn are_all_set(flags: &[bool]) -> bool
     ensures { result ≡ list_all (λ flag. flag) flags.now }
 {
     flags.iter().all(|is_set| *is_set)
 }
 
-/// Whether a flag is set.
+/// Returns whether any flag is set.
 fn is_any_set(flags: &[bool]) -> bool
     ensures { result ≡ list_any (λ flag. flag) flags.now }
 {
@@ -46,7 +46,7 @@ pub enum Reach {
     Somewhere,
 }
 
-/// The reach of a line that is selected at these logs.
+/// Returns the reach of a line that is selected at these logs.
 fn reach_of(flags: &[bool]) -> Reach
     ensures { Reaches result flags.now }
 {
@@ -59,7 +59,7 @@ fn reach_of(flags: &[bool]) -> Reach
     }
 }
 
-/// Where the lines of an input are handed out to the logs, alerts and status files of a script.
+/// Hands out the lines of an input to the logs, alerts and status files of a script.
 #[derive(Drop)]
 pub struct LineRouter<A: Allocator + Clone = Global> {
     tails: Vec<Tail, A>,
@@ -85,10 +85,10 @@ impl<A: Allocator + Clone> Model for LineRouter<A> {
 }
 
 impl<A: Allocator + Clone> LineRouter<A> {
-    /// A router for a script, over a store that has its logs and status files.
+    /// Opens a router for a script, over a store that has its logs and status files.
     ///
-    /// It takes all memory that it needs: a block of 32,768 bytes for each log, and a byte for each alert, log and
-    /// status file. `AllocError` comes only where the allocator refuses it.
+    /// It takes all the memory that it needs: a block of 32,768 bytes for each log, and a byte for each alert, log and
+    /// status file. `AllocError` is returned only if the allocator refuses that memory.
     pub fn open<B: Allocator + Clone, S: LogStore>(
         alloc: A,
         script: &Script<B>,
@@ -109,7 +109,7 @@ impl<A: Allocator + Clone> LineRouter<A> {
         })
     }
 
-    /// Begins a line of this label.
+    /// Begins a line with this label.
     pub fn begin<B: Allocator + Clone>(&mut self, script: &Script<B>, label: &Label)
         ensures at { IsAt script.now self.new label.now [] }
         ensures tails { self.new.tails ≡ self.old.tails }
@@ -123,10 +123,10 @@ impl<A: Allocator + Clone> LineRouter<A> {
         }
     }
 
-    /// Puts bytes of the line: they are of one line, without its newline. A front of less than 1000 bytes is kept.
-    /// Later bytes go to the logs at which the line is selected, where up to a block of them may wait.
+    /// Puts bytes of the line, without its newline. A front of less than 1000 bytes is kept in memory. Later bytes go
+    /// to the logs at which the line is selected. Up to a block of them may wait there.
     ///
-    /// After a fault the router goes no further.
+    /// After a fault the router stops.
     pub fn put<B: Allocator + Clone, S: LogStore>(
         &mut self,
         script: &Script<B>,
@@ -174,8 +174,8 @@ impl<A: Allocator + Clone> LineRouter<A> {
         )
     }
 
-    // Decides where the line with the kept front is selected: it is alerted, put into status files and, with what its
-    // end is, into logs.
+    // Decides at which outputs the line with the kept front is selected. Alerts it, puts it into status files, and puts
+    // it into logs with these last bytes.
     fn decide<B: Allocator + Clone, S: LogStore>(
         &mut self,
         script: &Script<B>,
@@ -210,7 +210,7 @@ impl<A: Allocator + Clone> LineRouter<A> {
 
     /// Ends the line. It gets its newline in the logs at which it is selected.
     ///
-    /// After a fault the router goes no further.
+    /// After a fault the router stops.
     pub fn end<B: Allocator + Clone, S: LogStore>(
         &mut self,
         script: &Script<B>,
@@ -227,7 +227,7 @@ impl<A: Allocator + Clone> LineRouter<A> {
         }
     }
 
-    // Ends a line whose front is kept: it is all of the line.
+    // Ends a line whose front is kept: the front is the whole line.
     fn end_kept<B: Allocator + Clone, S: LogStore>(
         &mut self,
         script: &Script<B>,
@@ -241,8 +241,9 @@ impl<A: Allocator + Clone> LineRouter<A> {
         self.decide(script, store, label, b"\n")
     }
 
-    /// How many bytes of whole lines [`LineRouter::put_alike`] takes: none where lines are stamped, alerted or put
-    /// into status files, and else as many as can fill no file of a log, whatever they are, but at most a block.
+    /// Returns how many bytes of whole lines [`LineRouter::put_alike`] takes. If lines are stamped, alerted or put into
+    /// status files, it takes none. Otherwise it takes as many bytes as can't fill a file of any log, with any values,
+    /// but at most a block.
     pub fn room<B: Allocator + Clone>(&self, script: &Script<B>) -> usize
         ensures bare { 0 < result → IsBare script.now }
         ensures room { HaveRoom result self.now.tails }
@@ -253,7 +254,7 @@ impl<A: Allocator + Clone> LineRouter<A> {
         room_in_all(&self.tails)
     }
 
-    /// At which logs a line is selected, which is without its newline.
+    /// Returns at which logs a line is selected. The line is given without its newline.
     pub fn reach<B: Allocator + Clone>(&mut self, script: &Script<B>, line: &[u8]) -> Reach
         requires { Fits self.old.chosen script.now }
         ensures chosen { self.new.chosen ≡ chosen script.now (take 1000 line.now) }
@@ -267,9 +268,9 @@ impl<A: Allocator + Clone> LineRouter<A> {
         reach_of(self.choices.logs())
     }
 
-    /// Puts whole lines of one reach, as they are: into all logs, or into none. Up to a block of them may wait.
+    /// Puts whole lines of one reach, unchanged, into all logs or into none. Up to a block of them may wait.
     ///
-    /// After a fault the router goes no further.
+    /// After a fault the router stops.
     pub fn put_alike<S: LogStore>(
         &mut self,
         store: &mut S,
@@ -288,7 +289,7 @@ impl<A: Allocator + Clone> LineRouter<A> {
         }
     }
 
-    /// Appends what waits in memory.
+    /// Appends the bytes that wait in memory.
     pub fn flush<S: LogStore>(&mut self, store: &mut S) -> Result<(), LogFault>
         requires logs { length self.old.tails ≤ (S.state store.old).logs }
         ensures hands { Hands result self.old.tails self.new.tails (S.state store.old) (S.state store.new) nothing }
@@ -298,7 +299,7 @@ impl<A: Allocator + Clone> LineRouter<A> {
         flush_all(&mut self.tails, store)
     }
 
-    /// How many old files were finished in all logs since the router was opened. The count stops at `u64::MAX`.
+    /// Returns how many old files were finished in all logs since the router was opened. The count stops at `u64::MAX`.
     pub fn finished(&self) -> u64
         ensures { result ≡ total_finished self.now.tails }
     {
@@ -309,7 +310,7 @@ impl<A: Allocator + Clone> LineRouter<A> {
         total
     }
 
-    /// How many old files were removed in all logs since the router was opened. The count stops at `u64::MAX`.
+    /// Returns how many old files were removed in all logs since the router was opened. The count stops at `u64::MAX`.
     pub fn removed(&self) -> u64
         ensures { result ≡ total_removed self.now.tails }
     {

@@ -10,7 +10,7 @@ use mlog_script::Script;
 use std::alloc::{AllocError, Allocator};
 use tai_status::{BLOCK, Label};
 
-/// The ends of the logs of a script, as the store holds them.
+/// Returns the ends of the logs of a script, as the store has them.
 pub fn open_all<A: Allocator + Clone, B: Allocator + Clone, S: LogStore>(
     alloc: A,
     script: &Script<B>,
@@ -28,7 +28,7 @@ pub fn open_all<A: Allocator + Clone, B: Allocator + Clone, S: LogStore>(
     Ok(tails)
 }
 
-/// Puts bytes of a line into one log, where it is selected there.
+/// Puts bytes of a line into one log, if it is selected there.
 fn put_one<A: Allocator, S: LogStore>(
     tails: &mut Vec<Tail, A>,
     log: usize,
@@ -68,7 +68,7 @@ pub fn put_chosen<A: Allocator, S: LogStore>(
     Ok(())
 }
 
-/// How many bytes can come, whatever they are, before a file of one of the logs can be full: at most a block.
+/// Returns how many bytes can come, with any values, before a file of one of the logs can be full: at most a block.
 pub fn room_in_all(tails: &[Tail]) -> usize
     ensures { HaveRoom result tails.now }
 {
@@ -79,7 +79,7 @@ pub fn room_in_all(tails: &[Tail]) -> usize
     room
 }
 
-/// Puts bytes that can fill no file, of whatever lines, into one log.
+/// Puts bytes that can't fill a file, from any lines, into one log.
 fn put_one_within<A: Allocator, S: LogStore>(
     tails: &mut Vec<Tail, A>,
     log: usize,
@@ -96,7 +96,7 @@ fn put_one_within<A: Allocator, S: LogStore>(
     tails[log].put_within(store, log, bytes)
 }
 
-/// Puts bytes that can fill no file, of whatever lines, into each log.
+/// Puts bytes that can't fill a file, from any lines, into each log.
 pub fn put_all_within<A: Allocator, S: LogStore>(
     tails: &mut Vec<Tail, A>,
     store: &mut S,
@@ -114,7 +114,7 @@ pub fn put_all_within<A: Allocator, S: LogStore>(
     Ok(())
 }
 
-/// Appends what waits in memory to one log.
+/// Appends the bytes that wait in memory to one log.
 fn flush_one<A: Allocator, S: LogStore>(
     tails: &mut Vec<Tail, A>,
     log: usize,
@@ -128,7 +128,7 @@ fn flush_one<A: Allocator, S: LogStore>(
     tails[log].flush(store, log)
 }
 
-/// Appends what waits in memory.
+/// Appends the bytes that wait in memory.
 pub fn flush_all<A: Allocator, S: LogStore>(
     tails: &mut Vec<Tail, A>,
     store: &mut S,

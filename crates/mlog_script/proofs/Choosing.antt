@@ -1,4 +1,4 @@
--- Where a line is selected, as a loop over the actions finds it.
+-- The outputs at which a line is selected, as a loop over the actions finds them.
 use Rattle.std.proofs.Common.{◌≡◌, ℕ, suc, ◌+◌, ◌-◌, ◌<◌, ◌≤◌, if◌then◌else◌, Bool, true, false, not, List, [], ◌∷◌}
 use Rattle.std.proofs.Common.{◌++◌, length, take, drop, map, get_or, drop-cons, refl, sym, subst, ap, ◌∙◌, arith}
 use Rattle.std.proofs.Common.{append-nil, count_by, cond, Some, None}
@@ -69,7 +69,7 @@ flags_step f test actions front k action chosen flags more within is was held e 
     ∙ sym (choices_next test (map f (take k actions)) (f action) front)
     ∙ ap (λ acts. choices test acts front) (sym (acts_next f actions k action within is))
 
--- where a choice comes, there is room for it
+-- there is room for a choice when it is noted
 pub room_at : {R : Type 0} (f : R → Act) (test : Act → Bool) (actions : List R) (front : List ℕ) (k room : ℕ)
     (action : R) (flags : List Bool)
     → k < length actions → action ≡ get_or actions k action → flags ≡ choices test (map f (take k actions)) front
@@ -102,7 +102,7 @@ chosen_between f actions front asked place chosen next before was e =
     ∙ sym (given_then (decision front) (map f (take asked actions)) (map f between) true)
     ∙ ap (λ acts. is_chosen acts front) (sym (map-append f (take asked actions) between) ∙ ap (map f) (sym cut))
 
--- The last of some actions decides, or else those before it do.
+-- The last of some actions decides, or those before it do.
 pub chosen_back : {R : Type 0} (f : R → Act) (front : List ℕ) (rest : List R) (last : R) (before : Bool)
     → 1 ≤ length rest
     → last ≡ get_or rest (length rest - 1) last
@@ -116,7 +116,7 @@ chosen_back f front rest last before some is =
     ∙ acts_next f rest (length rest - 1) last (omega (arith, some)) is)
     ∙ given_next (decision front) (map f (take (length rest - 1) rest)) (f last) before
 
--- An action at which no line goes out adds no flag.
+-- An action that sends no lines adds no flag.
 pub no_flag : {R : Type 0} (f : R → Act) (test : Act → Bool) (actions : List R) (front : List ℕ) (k : ℕ) (action : R)
     (flags : List Bool)
     → k < length actions → action ≡ get_or actions k action → test (f action) ≡ false
@@ -128,7 +128,7 @@ no_flag f test actions front k action flags within is none held =
     ∙ sym (choices_next test (map f (take k actions)) (f action) front)
     ∙ ap (λ acts. choices test acts front) (sym (acts_next f actions k action within is))
 
--- Where there is no pattern each line is selected everywhere.
+-- If there is no pattern, each line is selected everywhere.
 
 no_decision : (front : List ℕ) (a : Act) → is_pattern a ≡ false → decision front a ≡ None
 no_decision front (Select pattern) none = absurd (false≢true (sym none))
@@ -168,7 +168,7 @@ set_behind test front before (a ∷ acts) none also =
     (is_chosen_always front before none)
     (set_behind test front (before ++ a ∷ []) acts (none_more before a none parts.0) parts.1)
 
--- All flags are set then.
+-- All flags are set in that case.
 pub set_always : (test : Act → Bool) (acts : List Act) (front : List ℕ) → list_any is_pattern acts ≡ false
     → list_all (λ flag. flag) (choices test acts front) ≡ true
 set_always test acts front none = set_behind test front [] acts refl none
@@ -184,7 +184,7 @@ all_set_same (x ∷ xs) (y ∷ ys) all also n =
     let rest = all_set_same xs ys here.1 there.1 (omega (arith, n)) in
     let head : x ≡ y = here.0 ∙ sym there.0 in cc
 
--- So flags that are all set, as many as there are actions, are those of each line.
+-- Flags that are all set, one for each action, are therefore the flags of each line.
 pub set_are : (test : Act → Bool) (acts : List Act) (front : List ℕ) (flags : List Bool)
     → list_any is_pattern acts ≡ false
     → list_all (λ flag. flag) flags ≡ true → length flags ≡ count_by test acts → flags ≡ choices test acts front
@@ -196,7 +196,7 @@ same_chosen : (a b c x y z : List Bool) → a ≡ x → b ≡ y → c ≡ z
     → ◌≡◌ {A = Chosen} (record { alerts = a; logs = b; files = c }) (record { alerts = x; logs = y; files = z })
 same_chosen a b c x y z p q r = cc
 
--- as choices keep them
+-- the same, as choices keep them
 pub chosen_stays : (script : List Act) (front : List ℕ) (c : Chosen) (alerts logs files : List Bool)
     → record { alerts = alerts; logs = logs; files = files } ≡ c → AreAllSet alerts logs files → Fits c script
     → (b : Bool) → b ≡ list_any is_pattern script → b ≡ false → c ≡ chosen script front

@@ -14,14 +14,14 @@ use Rattle.mlog_script.specs.declared.fault.ScriptFaultKind.TheVariants.{StampNo
 use Rattle.mlog_script.specs.declared.fault.ScriptFault.{ScriptFault}
 use Rattle.mlog_script.proofs.Placed.{placed_behind-append}
 
--- A stamp behind other words is refused.
+-- A stamp that comes after other words is refused.
 pub stamp_late : {R : Type 0} (f : R → List ℕ) (before : List R) (word : List ℕ) (b : Bool) → b ≡ false
     → b ≡ (length before == 0)
     → said word ≡ Ok Stamp → Some StampNotFirst ≡ fault_of (map f before) word
 stamp_late f [] word b found is e = absurd (cc (found, is))
 stamp_late f (first ∷ rest) word b found is e = ap (fault_in (map f (first ∷ rest))) (sym e)
 
--- The faults of words, of a word behind them, and of those behind it.
+-- The faults of words, of a word after them, and of the words after it.
 faults_here : (before rest : List (List ℕ)) (word : List ℕ) → faults before ≡ []
     → faults (before ++ word ∷ rest)
     ≡ cons_option (fault_at (record { before = before; item = word }))
@@ -40,14 +40,14 @@ passed : (before : List (List ℕ)) (word : List ℕ) → faults before ≡ [] �
     → faults (before ++ word ∷ []) ≡ []
 passed before word lawful fine = let here = faults_here before [] word lawful in cc (here, fine)
 
--- the words before a place, the word there, and those behind it
+-- the words before a place, the word there, and the words after it
 pub words_at : {R : Type 0} (f : R → List ℕ) (words : List R) (k : ℕ) (d : R) → k < length words
     → map f words ≡ map f (take k words) ++ f (get_or words k d) ∷ map f (drop (suc k) words)
 words_at f words k d within =
     ap (map f) (sym (take-append-drop k words)) ∙ map-append f (take k words) (drop k words)
     ∙ ap (λ rest. map f (take k words) ++ map f rest) (drop-cons words k d within)
 
--- The first bad word stands behind words that are not bad.
+-- The first bad word comes after words that are not bad.
 pub reported_at : {R : Type 0} (f : R → List ℕ) (words : List R) (k : ℕ) (d : R) (kind : ScriptFaultKind)
     → k < length words
     → faults (map f (take k words)) ≡ [] → Some kind ≡ fault_of (map f (take k words)) (f (get_or words k d))
@@ -83,7 +83,7 @@ prefix_fine : (xs ys : List ScriptFault) → xs ++ ys ≡ [] → (xs ≡ []) × 
 prefix_fine [] ys e = (refl, e)
 prefix_fine (x ∷ xs) ys e = absurd (cc e)
 
--- Each word of a script says an action.
+-- Each word of a script asks for an action.
 says : (before rest : List (List ℕ)) (word : List ℕ) → faults (before ++ word ∷ rest) ≡ [] → is_ok (said word) ≡ true
 says before rest word lawful =
     let parts = ap (filter_map fault_at) (placed_behind-append [] before (word ∷ rest))
@@ -100,7 +100,7 @@ says_at f words k d within lawful =
     says (map f (take k words)) (map f (drop (suc k) words)) (f (get_or words k d))
     (ap faults (sym (words_at f words k d within)) ∙ lawful)
 
--- What the words before a place say.
+-- What the words before a place ask for.
 pub said_before : {R : Type 0} (f : R → List ℕ) (words : List R) (k : ℕ)
     → map said (map f (take k words)) ≡ take (k + 1 - 1) (map said (map f words))
 said_before f words k =

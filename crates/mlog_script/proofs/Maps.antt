@@ -1,4 +1,4 @@
--- What holds of a list that a map made.
+-- Facts about a list that a map made.
 use Rattle.std.proofs.Common.{◌≡◌, refl, ap, Bool, List, [], ◌∷◌, map}
 use Rattle.std.specs.Prelude.{◌||◌}
 use Rattle.std.specs.List.{list_any}

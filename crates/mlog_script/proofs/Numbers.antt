@@ -1,4 +1,4 @@
--- Numbers that grow digit by digit, up to the greatest.
+-- Numbers that grow digit by digit, up to the greatest `u64`.
 use Rattle.std.proofs.Common.{◌≡◌, ℕ, ◌+◌, ◌-◌, ◌*◌, ◌<◌, List, length, take, get_or, min, arith}
 use Rattle.std.proofs.lemmas.List.Sums.{fold_more}
 use Rattle.mlog_script.specs.Script.{number}

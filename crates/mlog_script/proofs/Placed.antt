@@ -20,7 +20,7 @@ last_or-given o [] None d = refl
 last_or-given o [] (Some y) d = refl
 last_or-given o (x ∷ xs) y d = last_or-given (Some x) xs y d
 
--- The last that is given, behind one more item.
+-- The last result, after one more item.
 pub given_next : {X Y : Type 0} (f : X → Option Y) (xs : List X) (x : X) (d : Y)
     → unwrap_or (last_given f (xs ++ x ∷ [])) d ≡ unwrap_or (f x) (unwrap_or (last_given f xs) d)
 given_next f xs x d =
@@ -41,7 +41,8 @@ last_or-else : {Y : Type 0} (o : Option Y) (ys : List Y) (d : Y) → unwrap_or (
 last_or-else o [] d = refl
 last_or-else o (y ∷ ys) d = last_or-some y ys d (unwrap_or o d)
 
--- The last that is given of some items and further ones: that of the further ones, or else that of the first ones.
+-- The last result among some items and further ones: that of the further ones, or that of the first ones if they have
+-- none.
 pub given_then : {X Y : Type 0} (f : X → Option Y) (xs ys : List X) (d : Y)
     → unwrap_or (last_given f (xs ++ ys)) d ≡ unwrap_or (last_given f ys) (unwrap_or (last_given f xs) d)
 given_then f xs ys d =

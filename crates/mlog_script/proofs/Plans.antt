@@ -12,7 +12,7 @@ use Rattle.mlog_script.specs.Script.{keep_set, size_after, keep_after, is_log, i
 use Rattle.mlog_script.proofs.Placed.{given_next}
 use Rattle.mlog_script.specs.declared.plan.TheConstants.{DEFAULT_SIZE, DEFAULT_KEEP}
 
--- the logs of actions that stand behind others
+-- the logs of actions that come after others
 abbrev pub plans_behind : List Act → List Act → List Plan
 plans_behind before acts = filter_map (λ act. plan_behind act.before act.item) (placed_behind before acts)
 

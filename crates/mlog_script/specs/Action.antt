@@ -1,4 +1,4 @@
--- Actions with bytes of their own, as the code holds them.
+-- Actions with bytes of their own, as the code has them.
 use Rattle.std.specs.Prelude.{◌≡◌, false, List, map, Result, Ok}
 use Rattle.mlog_script.specs.Script.{Act, Stamp, Alert, Size, Keep, Select, Deselect, Status, Log}
 use Rattle.mlog_script.specs.Script.{is_alert, is_log, is_file}
@@ -16,10 +16,10 @@ act (code.Deselect pattern) = Deselect pattern
 act (code.Status path) = Status path.items
 act (code.Log folder) = Log folder.items
 
--- No line goes out at the action, neither to an alert nor to a log nor to a status file.
+-- The action sends no line to an alert, a log or a status file.
 abbrev pub HasNoOutput : Act → Type 0
 HasNoOutput a = (is_alert a ≡ false) × (is_log a ≡ false) × (is_file a ≡ false)
 
--- what actions ask, as words say it
+-- the actions that words ask for, in the form of `said`
 abbrev pub asked_by : {A : Type 0} → List (Action A) → List (Result Act ScriptFaultKind)
 asked_by actions = map (λ action. Ok (act action)) actions

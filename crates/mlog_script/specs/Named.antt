@@ -16,10 +16,10 @@ kind_name kind.Pattern = codes "Pattern"
 kind_name kind.SameLogTwice = codes "SameLogTwice"
 kind_name kind.OutOfMemory = codes "OutOfMemory"
 
--- the word that is wrong, and what is wrong with it
+-- the word that is wrong, and why
 abbrev pub script_fault_text : ScriptFault → List ℕ
 script_fault_text fault = codes "word " ++ (decimal fault.word ++ (codes ": " ++ kind_name fault.kind))
 
--- There was no memory.
+-- The allocator refused memory.
 abbrev pub IsWantOfMemory : ScriptFault → Type 0
 IsWantOfMemory fault = fault.kind ≡ kind.OutOfMemory

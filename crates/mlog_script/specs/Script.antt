@@ -1,5 +1,5 @@
--- What the words of a script ask, by the multilog page of daemontools (cr.yp.to/daemontools/multilog.html).
--- Words, patterns, paths and folders are lists of bytes.
+-- What the words of a script ask for, by the multilog page of daemontools (cr.yp.to/daemontools/multilog.html). Words,
+-- patterns, paths and folders are lists of bytes.
 use Rattle.std.specs.Prelude.{ℕ, ◌+◌, ◌-◌, ◌*◌, ◌==◌, nat_le, nat_lt, Bool, true, false, ◌&&◌, ◌||◌, if◌then◌else◌}
 use Rattle.std.specs.Prelude.{List, [], ◌∷◌, length, map, bytes_eq, fold, unwrap_or, slice_get, Option, Some, None}
 use Rattle.std.specs.Prelude.{Result, Ok, Err}
@@ -18,7 +18,7 @@ use Rattle.mlog_script.specs.declared.word.TheConstants.{LEAST_SIZE, MOST_SIZE}
 
 -- The action that a word asks for.
 pub data Act : Type 0 where
-  -- `t`: lines are shown behind a stamp.
+  -- `t`: a stamp is put before each line.
   Stamp : Act
   -- `e`: the selected lines are alerted.
   Alert : Act
@@ -30,14 +30,14 @@ pub data Act : Type 0 where
   Select : List ℕ → Act
   -- `-pattern`: the lines that match are deselected.
   Deselect : List ℕ → Act
-  -- `=path`: the last selected line stands in this file.
+  -- `=path`: this file has the last selected line.
   Status : List ℕ → Act
-  -- a word that begins with `.` or `/`: the selected lines go into the log in this folder.
+  -- a word that begins with `.` or `/`: the selected lines go into the log in this folder
   Log : List ℕ → Act
 
 -- Words
 
--- the words behind references
+-- the words that these references refer to
 abbrev pub texts : List (Bor (List ℕ)) → List (List ℕ)
 texts words = map (λ word. word.now) words
 
@@ -48,7 +48,7 @@ is_digit byte = nat_le 48 byte && nat_le byte 57
 abbrev pub is_number : List ℕ → Bool
 is_number bytes = nat_lt 0 (length bytes) && list_all is_digit bytes
 
--- the number of some digits, which may have zeros in front
+-- the number of some digits, which may begin with zeros
 abbrev pub number : List ℕ → ℕ
 number digits = fold (λ n digit. n * 10 + (digit - 48)) 0 digits
 
@@ -73,12 +73,12 @@ alone act (byte ∷ rest) = Err UnknownAction
 abbrev pub on_pattern : Act → List ℕ → Result Act ScriptFaultKind
 on_pattern act pattern = if has_adjacent_stars pattern then Err Pattern else Ok act
 
--- a path is not empty
+-- an action on a path, which must not be empty
 abbrev pub on_path : List ℕ → Result Act ScriptFaultKind
 on_path [] = Err UnknownAction
 on_path (byte ∷ rest) = Ok (Status (byte ∷ rest))
 
--- what a word says by itself: its action, or why it has none
+-- the action of a word by itself, or why it has none
 abbrev pub said : List ℕ → Result Act ScriptFaultKind
 said [] = Err UnknownAction
 said (first ∷ rest) =
@@ -95,31 +95,31 @@ said (first ∷ rest) =
 
 -- Scripts
 
--- whether a word stands among these
+-- whether a word is among these
 unfoldable pub is_among : List (List ℕ) → List ℕ → Bool
 is_among words word = list_any (λ other. bytes_eq other word) words
 
--- a `t` comes first
+-- a `t` must come first
 abbrev pub stamp_fault : List (List ℕ) → Option ScriptFaultKind
 stamp_fault [] = None
 stamp_fault (word ∷ words) = Some StampNotFirst
 
--- Why an action is refused behind these words: a stamp comes first, and no two logs have one folder.
+-- Why an action is refused after these words: a stamp must come first, and no two logs may have the same folder.
 abbrev pub refusal : List (List ℕ) → Act → Option ScriptFaultKind
 refusal before Stamp = stamp_fault before
 refusal before (Log folder) = if is_among before folder then Some SameLogTwice else None
 refusal before act = None
 
--- what is wrong with what a word says behind these
+-- the fault of an action, or of a word without one, after these words
 abbrev pub fault_in : List (List ℕ) → Result Act ScriptFaultKind → Option ScriptFaultKind
 fault_in before (Ok act) = refusal before act
 fault_in before (Err kind) = Some kind
 
--- what is wrong with a word behind these
+-- the fault of a word after these words
 abbrev pub fault_of : List (List ℕ) → List ℕ → Option ScriptFaultKind
 fault_of before word = fault_in before (said word)
 
--- the fault of a word, if it is bad; words count from 1
+-- the fault of a word, if it is bad; words are counted from 1
 abbrev pub fault_at : Placed (List ℕ) → Option ScriptFault
 fault_at word =
     option_map (λ kind. record { word = length word.before + 1; kind = kind }) (fault_of word.before word.item)
@@ -128,11 +128,11 @@ fault_at word =
 abbrev pub faults : List (List ℕ) → List ScriptFault
 faults words = filter_map fault_at (placed words)
 
--- the first bad word of a script, which is reported
+-- the first bad word of a script, which multilog reports
 abbrev pub first_fault : List (List ℕ) → Option ScriptFault
 first_fault words = slice_get (faults words) 0
 
--- What a run needs
+-- What multilog needs to run
 
 abbrev pub is_stamp : Act → Bool
 is_stamp Stamp = true
@@ -163,17 +163,17 @@ abbrev pub keep_set : Act → Option ℕ
 keep_set (Keep n) = Some n
 keep_set act = None
 
--- whether an action's number is within its limits, as every word's is
+-- whether an action's number is within its limits, as the number of each word is
 abbrev pub is_within_limits : Act → Bool
 is_within_limits (Size n) = nat_le LEAST_SIZE n
 is_within_limits (Keep n) = nat_le 2 n
 is_within_limits act = true
 
--- the size of a log behind these actions: the last that they set, or the default
+-- the size of a log after these actions: the last size that they set, or the default
 abbrev pub size_after : List Act → ℕ
 size_after acts = unwrap_or (last_given size_set acts) DEFAULT_SIZE
 
--- how many old files a log behind these actions keeps: the last number that they set, or the default
+-- how many old files a log after these actions keeps: the last number that they set, or the default
 abbrev pub keep_after : List Act → ℕ
 keep_after acts = unwrap_or (last_given keep_set acts) DEFAULT_KEEP
 

@@ -10,7 +10,7 @@ use crate::word::{Said, read_word};
 use star_match::Pattern;
 use std::alloc::{Allocator, Global};
 
-/// What a word asks.
+/// What a word asks for.
 #[derive(Debug, Drop)]
 pub(crate) enum Action<A: Allocator + Clone = Global> {
     Stamp,
@@ -42,7 +42,7 @@ impl<A: Allocator + Clone> Action<A> {
         }
     }
 
-    /// Whether a line with this front is selected behind the action, where its pattern decides that.
+    /// Returns whether a line with this front is selected after the action, if its pattern decides that.
     pub(crate) fn decision(&self, front: &[u8]) -> Option<bool>
         ensures { result ≡ decision front.now (act self.now) }
     {
@@ -53,14 +53,14 @@ impl<A: Allocator + Clone> Action<A> {
         }
     }
 
-    /// Whether lines go out at the action: to an alert, a log or a status file.
+    /// Returns whether the action sends lines to an alert, a log or a status file.
     pub(crate) fn is_output(&self) -> bool
         ensures none { result ≡ false → HasNoOutput (act self.now) }
     {
         matches!(self, Action::Alert | Action::Log(_) | Action::Status(_))
     }
 
-    /// The size that the action sets.
+    /// Returns the size that the action sets.
     pub(crate) fn size_set(&self) -> Option<u64>
         ensures { result ≡ size_set (act self.now) }
     {
@@ -70,7 +70,7 @@ impl<A: Allocator + Clone> Action<A> {
         }
     }
 
-    /// The number of old files that the action sets.
+    /// Returns the number of old files that the action sets.
     pub(crate) fn keep_set(&self) -> Option<u64>
         ensures { result ≡ keep_set (act self.now) }
     {
@@ -111,7 +111,7 @@ impl<A: Allocator + Clone> Action<A> {
     }
 }
 
-/// A pattern of these bytes.
+/// Returns a pattern with these bytes.
 fn own_pattern<A: Allocator + Clone>(alloc: A, bytes: &[u8]) -> Result<Pattern<A>, ScriptFaultKind>
     requires { has_adjacent_stars bytes.now ≡ false }
     ensures ok { IfOk result (λ pattern. pattern ≡ bytes.now) }
@@ -120,7 +120,7 @@ fn own_pattern<A: Allocator + Clone>(alloc: A, bytes: &[u8]) -> Result<Pattern<A
     Pattern::read(alloc, bytes).map_err(|_| ScriptFaultKind::OutOfMemory)
 }
 
-/// A copy of the bytes.
+/// Copies the bytes.
 fn own_bytes<A: Allocator>(alloc: A, bytes: &[u8]) -> Result<Vec<u8, A>, ScriptFaultKind>
     ensures ok { IfOk result (λ own. own.items ≡ bytes.now) }
     ensures memory { IsOkUnless result ScriptFaultKind.OutOfMemory }

@@ -7,7 +7,7 @@ use crate::fault::{ScriptFault, ScriptFaultKind};
 use crate::word::{Said, read_word};
 use std::convert::AsSlice;
 
-/// Reports the first bad word of a script. It takes no memory.
+/// Returns an error for the first bad word of a script. Needs no memory.
 pub fn check_words<W: AsSlice<u8>>(words: &[W]) -> Result<(), ScriptFault>
     ensures reported { MatchOption (first_fault (map W.items words.now)) (IsOk result) (λ fault. result ≡ Err fault) }
     ensures lawful { OnOk result (faults (map W.items words.now) ≡ []) }
@@ -24,7 +24,7 @@ pub fn check_words<W: AsSlice<u8>>(words: &[W]) -> Result<(), ScriptFault>
     Ok(())
 }
 
-/// What is wrong with a word behind these.
+/// Returns the fault of a word that comes after these words.
 fn fault_of<W: AsSlice<u8>>(before: &[W], word: &[u8]) -> Option<ScriptFaultKind>
     ensures { result ≡ fault_of (map W.items before.now) word.now }
 {
@@ -38,7 +38,7 @@ fn fault_of<W: AsSlice<u8>>(before: &[W], word: &[u8]) -> Option<ScriptFaultKind
     }
 }
 
-/// Whether a word stands among these.
+/// Returns whether a word is among these.
 #[tactic(auto, unfolding(crate::specs::Script::is_among))]
 fn stands_among<W: AsSlice<u8>>(words: &[W], word: &[u8]) -> bool
     ensures { result ≡ is_among (map W.items words.now) word.now }

@@ -10,11 +10,12 @@ use crate::script::Script;
 use std::alloc::{AllocError, Allocator, Global};
 use std::marker::Model;
 
-/// At which alerts, logs and status files of a script a line is selected. Contracts see a list of flags of each.
+/// The alerts, logs and status files of a script at which a line is selected. Contracts see a list of flags for each
+/// kind.
 #[derive(Debug, Drop)]
 pub struct Choices<A: Allocator + Clone = Global> {
     marks: Marks<A>,
-    // Whether they are all set. So they stay, as long as no pattern decides.
+    // Whether all flags are set. They stay set as long as no pattern decides.
     all_set: bool,
 }
 
@@ -36,9 +37,10 @@ impl<A: Allocator + Clone> Model for Choices<A> {
 }
 
 impl<A: Allocator + Clone> Choices<A> {
-    /// Choices that have room for those of a script. They take all memory that [`Choices::choose`] needs.
+    /// Returns choices with room for those of a script. They take all the memory that [`Choices::choose`] needs: a byte
+    /// for each alert, log and status file.
     ///
-    /// `AllocError` comes only where the allocator refuses it, which is a byte for each alert, log and status file.
+    /// `AllocError` is returned only if the allocator refuses that memory.
     pub fn new<B: Allocator + Clone>(alloc: A, script: &Script<B>) -> Result<Choices<A>, AllocError>
         ensures fits { IfOk result (λ choices. Fits choices script.now) }
     {
@@ -55,10 +57,12 @@ impl<A: Allocator + Clone> Choices<A> {
         })
     }
 
-    /// Decides where a line with this front is selected: at each action as the last `-` or `+` before it says, whose
-    /// pattern matches the front, or else it is. Patterns see at most the first 1000 bytes of a line: it is they that
-    /// are given, without the newline, and behind a stamp where the script has one. It takes no memory. Where no
-    /// pattern decides nothing is asked: each line is selected everywhere.
+    /// Decides at which outputs a line with this front is selected. At each action, the last `-` or `+` before it with
+    /// a pattern that matches the front decides. If there is none, the line is selected.
+    ///
+    /// Patterns see at most the first 1000 bytes of a line. The front is these bytes, without the newline, and with the
+    /// stamp if the script has one. This needs no memory. If the script has no patterns, nothing is matched: each line
+    /// is selected everywhere.
     pub fn choose<B: Allocator + Clone>(&mut self, script: &Script<B>, front: &[u8])
         requires { Fits self.old script.now }
         ensures chosen { self.new ≡ chosen script.now front.now }
@@ -73,21 +77,21 @@ impl<A: Allocator + Clone> Choices<A> {
         self.all_set = !decides;
     }
 
-    /// Whether the line is selected at each alert, in the order of the script.
+    /// Returns whether the line is selected at each alert, in the order of the script.
     pub fn alerts(&self) -> &[bool]
         ensures { result.now ≡ self.now.alerts }
     {
         self.marks.alerts.as_slice()
     }
 
-    /// Whether the line is selected at each log, in the order of the script.
+    /// Returns whether the line is selected at each log, in the order of the script.
     pub fn logs(&self) -> &[bool]
         ensures { result.now ≡ self.now.logs }
     {
         self.marks.logs.as_slice()
     }
 
-    /// Whether the line is selected at each status file, in the order of the script.
+    /// Returns whether the line is selected at each status file, in the order of the script.
     pub fn files(&self) -> &[bool]
         ensures { result.now ≡ self.now.files }
     {
@@ -95,7 +99,7 @@ impl<A: Allocator + Clone> Choices<A> {
     }
 }
 
-/// Choices, one after another.
+/// Flags that are noted one after another.
 #[derive(Debug, Drop)]
 struct Marks<A: Allocator + Clone = Global> {
     alerts: Vec<bool, A>,
@@ -104,7 +108,7 @@ struct Marks<A: Allocator + Clone = Global> {
 }
 
 impl<A: Allocator + Clone> Marks<A> {
-    /// Forgets the choices, and keeps their room.
+    /// Drops the flags, and keeps their room.
     fn clear(&mut self)
         ensures empty { (self.new.alerts.items ≡ []) × (self.new.logs.items ≡ []) × (self.new.files.items ≡ []) }
         ensures alert_room { vec_capacity self.new.alerts ≡ vec_capacity self.old.alerts }
@@ -143,8 +147,9 @@ impl<A: Allocator + Clone> Marks<A> {
     }
 }
 
-/// Whether a line with this front is selected behind the actions: as the last of them says whose pattern matches it, or
-/// else as it was before them. They are asked from the last one on, up to the first that decides.
+/// Returns whether a line with this front is selected after the actions. The last action with a pattern that matches
+/// decides; if there is none, it is as before the actions. The actions are tried from the last one on, up to the first
+/// that decides.
 fn is_chosen_behind<B: Allocator + Clone>(actions: &[Action<B>], front: &[u8], before: bool) -> bool
     ensures { result ≡ unwrap_or (last_given (decision front.now) (map act actions.now)) before }
 {
@@ -158,8 +163,8 @@ fn is_chosen_behind<B: Allocator + Clone>(actions: &[Action<B>], front: &[u8], b
     before
 }
 
-/// Notes for each action at which lines go out whether a line with this front is selected there. So each pattern is
-/// asked once at most.
+/// Notes, for each action that sends lines, whether it selects a line with this front. Each pattern is tried at most
+/// once.
 fn mark<A: Allocator + Clone, B: Allocator + Clone>(
     actions: &[Action<B>],
     front: &[u8],

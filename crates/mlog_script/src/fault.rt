@@ -16,26 +16,26 @@ pub enum ScriptFaultKind {
     /// A number of old files below 2 or above 4294967295.
     CountRange,
 
-    /// After `s` or `n` stands no digit, or another byte.
+    /// No digit comes after `s` or `n`, or another byte does.
     BadNumber,
 
-    /// A word that begins with `!`: processors are not run.
+    /// A word that begins with `!`: dtools runs no processors.
     Processor,
 
-    /// No action is written so.
+    /// A word that spells no action.
     UnknownAction,
 
-    /// A pattern with two stars in a row.
+    /// A pattern with two adjacent stars.
     Pattern,
 
-    /// The folder of a log, as an earlier word has it.
+    /// The folder of a log that is in an earlier word.
     SameLogTwice,
 
-    /// The allocator refused the memory for the action.
+    /// The allocator refused memory for the action.
     OutOfMemory,
 }
 
-/// The name of what is wrong with a word.
+/// Returns the name of a fault.
 pub fn kind_name(kind: ScriptFaultKind) -> &'static str
     ensures { result.now ≡ kind_name kind }
 {
@@ -71,7 +71,7 @@ pub struct ScriptFault {
     /// The place of the word, counted from 1.
     pub word: usize,
 
-    /// What is wrong with it.
+    /// What is wrong with the word.
     pub kind: ScriptFaultKind,
 }
 

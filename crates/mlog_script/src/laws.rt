@@ -1,10 +1,10 @@
-//! What comes of a text, as facts about all scripts and texts. The function does nothing: its contract is the law.
+//! What a text gives, as facts about all scripts and texts. The function does nothing: its contract is the law.
 ghost use Rattle.std.specs.Prelude.{List, ℕ};
 ghost use Rattle.mlog_script.specs.Script.{Act};
 ghost use Rattle.mlog_script.specs.Selection.{log_text, alert_text, file_contents, ComesInTurn, ContentGoesOn};
 
-/// What comes of whole lines and further bytes comes of the lines, and then of the bytes: of each log, of the alerts
-/// and of each status file. So a reader may go line by line.
+/// States that whole lines and further bytes give what the lines give, followed by what the bytes give. This is true of
+/// each log, of the alerts and of each status file. A reader can therefore go line by line.
 pub fn lines_come_in_turn()
     ensures logs { (script : List Act) (log : ℕ) → ComesInTurn (log_text script log) }
     ensures alerts { (script : List Act) → ComesInTurn (alert_text script) }

@@ -7,16 +7,16 @@ use crate::action::Action;
 use std::alloc::Allocator;
 use std::marker::Model;
 
-/// The size of a log, where no word sets one.
+/// The size of a log, if no word sets one.
 pub const DEFAULT_SIZE: u64 = 99_999;
 
-/// How many old files a log keeps, where no word sets it.
+/// How many old files a log keeps, if no word sets a number.
 pub const DEFAULT_KEEP: u64 = 10;
 
-/// What a script asks of a log.
+/// What a script asks for a log.
 #[derive(Debug, Drop)]
 pub struct LogPlan<'a> {
-    /// The folder, as the script has it.
+    /// The folder, as it is in the script.
     pub folder: &'a [u8],
 
     /// The size of a file, in bytes.
@@ -34,7 +34,7 @@ impl<'a> Model for LogPlan<'a> {
     ghost view = { λ plan. record { folder = plan.folder.now; size = plan.size; keep = plan.keep } };
 }
 
-/// What actions ask of the log of this number.
+/// Returns what actions ask for the log with this number.
 #[tactic(auto, using(crate::proofs::Plans::plans_step))]
 pub(crate) fn log_plan<A: Allocator + Clone>(
     actions: &[Action<A>],
@@ -59,7 +59,7 @@ pub(crate) fn log_plan<A: Allocator + Clone>(
     None
 }
 
-/// The size of a log behind these actions.
+/// Returns the size of a log that comes after these actions.
 fn size_after<A: Allocator + Clone>(actions: &[Action<A>]) -> u64
     ensures { result ≡ size_after (map act actions.now) }
 {
@@ -70,7 +70,7 @@ fn size_after<A: Allocator + Clone>(actions: &[Action<A>]) -> u64
     size
 }
 
-/// How many old files a log behind these actions keeps.
+/// Returns how many old files a log that comes after these actions keeps.
 fn keep_after<A: Allocator + Clone>(actions: &[Action<A>]) -> u64
     ensures { result ≡ keep_after (map act actions.now) }
 {
@@ -81,7 +81,7 @@ fn keep_after<A: Allocator + Clone>(actions: &[Action<A>]) -> u64
     keep
 }
 
-/// The path of the status file of this number.
+/// Returns the path of the status file with this number.
 pub(crate) fn file_path<A: Allocator + Clone>(actions: &[Action<A>], file: usize) -> Option<&[u8]>
     ensures { option_copied result ≡ slice_get (file_paths (map act actions.now)) file }
 {

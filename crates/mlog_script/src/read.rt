@@ -9,7 +9,7 @@ use crate::fault::{ScriptFault, ScriptFaultKind};
 use std::alloc::Allocator;
 use std::convert::AsSlice;
 
-/// The actions of words of which none is bad.
+/// Reads the actions of words that are not bad.
 pub(crate) fn read_actions<A: Allocator + Clone, W: AsSlice<u8>>(
     alloc: A,
     words: &[W],
@@ -25,7 +25,7 @@ pub(crate) fn read_actions<A: Allocator + Clone, W: AsSlice<u8>>(
     Ok(actions)
 }
 
-/// Reads the actions of words, of which none is bad, up to the first for which there is no memory.
+/// Reads the actions of words that are not bad, up to the first one that runs out of memory.
 fn add_all<A: Allocator + Clone, W: AsSlice<u8>>(
     actions: &mut Vec<Action<A>, A>,
     words: &[W],
@@ -49,7 +49,7 @@ fn add_all<A: Allocator + Clone, W: AsSlice<u8>>(
     Ok(())
 }
 
-/// Puts the action of a word behind the others.
+/// Adds the action of a word after the others.
 fn add<A: Allocator + Clone>(
     actions: &mut Vec<Action<A>, A>,
     word: &[u8],

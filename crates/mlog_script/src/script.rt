@@ -41,11 +41,11 @@ impl<A: Allocator + Clone> Model for Script<A> {
 }
 
 impl<A: Allocator + Clone> Script<A> {
-    /// Reads the words of a script. No words are a lawful script.
+    /// Reads the words of a script. No words are a valid script.
     ///
-    /// The first bad word is reported, also where there is no memory. Else `OutOfMemory` comes only where the allocator
-    /// refuses the memory for the action of the word that is reported, or for the list of the actions up to it. No
-    /// words take none.
+    /// The first bad word is reported, even if there is no memory. Otherwise `OutOfMemory` is returned only if the
+    /// allocator refuses memory for the action of the reported word, or for the list of the actions up to it. No words
+    /// need no memory.
     pub fn read<W: AsSlice<u8>>(alloc: A, words: &[W]) -> Result<Script<A>, ScriptFault>
         ensures ok { IfOk result (λ script. map said (map W.items words.now) ≡ map (λ action. Ok action) script) }
         ensures refuses { MatchOption (first_fault (map W.items words.now))
@@ -64,7 +64,7 @@ impl<A: Allocator + Clone> Script<A> {
         })
     }
 
-    /// The actions, in order.
+    /// Returns the actions, in order.
     pub(crate) fn actions(&self) -> &[Action<A>]
         ensures actions { map act result.now ≡ self.now }
         ensures limits { list_all is_within_limits self.now ≡ true }
@@ -72,43 +72,43 @@ impl<A: Allocator + Clone> Script<A> {
         self.actions.as_slice()
     }
 
-    /// Whether lines are shown behind a stamp.
+    /// Returns whether lines get a stamp.
     pub fn stamps(&self) -> bool
         ensures { result ≡ stamps self.now }
     {
         self.stamps
     }
 
-    /// Whether a pattern selects or deselects lines. Else every line is selected at each action.
+    /// Returns whether a pattern selects or deselects lines. If none does, every line is selected at each action.
     pub fn has_patterns(&self) -> bool
         ensures { result ≡ list_any is_pattern self.now }
     {
         self.has_patterns
     }
 
-    /// How many alerts the script has.
+    /// Returns how many alerts the script has.
     pub fn alerts(&self) -> usize
         ensures { result ≡ count_by is_alert self.now }
     {
         count_alerts(&self.actions)
     }
 
-    /// How many logs the script has.
+    /// Returns how many logs the script has.
     pub fn logs(&self) -> usize
         ensures { result ≡ count_by is_log self.now }
     {
         count_logs(&self.actions)
     }
 
-    /// How many status files the script has.
+    /// Returns how many status files the script has.
     pub fn files(&self) -> usize
         ensures { result ≡ count_by is_file self.now }
     {
         count_files(&self.actions)
     }
 
-    /// What the script asks of the log of this number: `Some` for each number below [`Script::logs`]. Its size is at
-    /// least 4096, and it keeps at least 2 old files.
+    /// Returns what the script asks for the log with this number: `Some` for each number below [`Script::logs`]. The
+    /// size is at least 4096, and the log keeps at least 2 old files.
     pub fn log(&self, log: usize) -> Option<LogPlan<'_>>
         ensures plan { result ≡ slice_get (log_plans self.now) log }
         ensures there { IsSome result ↔ log < count_by is_log self.now }
@@ -117,7 +117,7 @@ impl<A: Allocator + Clone> Script<A> {
         log_plan(self.actions(), log)
     }
 
-    /// The path of the status file of this number: `Some` for each number below [`Script::files`].
+    /// Returns the path of the status file with this number: `Some` for each number below [`Script::files`].
     pub fn file(&self, file: usize) -> Option<&[u8]>
         ensures path { option_copied result ≡ slice_get (file_paths self.now) file }
         ensures there { IsSome result ↔ file < count_by is_file self.now }
@@ -126,35 +126,35 @@ impl<A: Allocator + Clone> Script<A> {
     }
 }
 
-/// Whether one of the actions is a stamp.
+/// Returns whether one of the actions is a stamp.
 fn any_stamp<A: Allocator + Clone>(actions: &[Action<A>]) -> bool
     ensures { result ≡ list_any (λ action. is_stamp (act action)) actions.now }
 {
     actions.iter().any(|action| action.is_stamp())
 }
 
-/// Whether one of the actions is on a pattern.
+/// Returns whether one of the actions has a pattern.
 fn any_pattern<A: Allocator + Clone>(actions: &[Action<A>]) -> bool
     ensures { result ≡ list_any (λ action. is_pattern (act action)) actions.now }
 {
     actions.iter().any(|action| action.is_pattern())
 }
 
-/// How many of the actions are alerts.
+/// Returns how many of the actions are alerts.
 fn count_alerts<A: Allocator + Clone>(actions: &[Action<A>]) -> usize
     ensures { result ≡ count_by (λ action. is_alert (act action)) actions.now }
 {
     actions.iter().filter(|action| action.is_alert()).count()
 }
 
-/// How many of the actions are logs.
+/// Returns how many of the actions are logs.
 fn count_logs<A: Allocator + Clone>(actions: &[Action<A>]) -> usize
     ensures { result ≡ count_by (λ action. is_log (act action)) actions.now }
 {
     actions.iter().filter(|action| action.is_log()).count()
 }
 
-/// How many of the actions are status files.
+/// Returns how many of the actions are status files.
 fn count_files<A: Allocator + Clone>(actions: &[Action<A>]) -> usize
     ensures { result ≡ count_by (λ action. is_file (act action)) actions.now }
 {

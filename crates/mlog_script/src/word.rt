@@ -1,4 +1,4 @@
-//! Words: what each asks by itself.
+//! What each word asks for by itself.
 ghost use Rattle.std.specs.Prelude.{◌≡◌, ◌-◌, ◌*◌, ◌+◌, ◌<◌, ◌^◌, ℕ, Ok, Err, length, min, false, true};
 ghost use Rattle.std.specs.Prelude.{if◌then◌else◌, IfOk, IfErr};
 ghost use Rattle.std.specs.List.{list_all};
@@ -9,7 +9,7 @@ ghost use Rattle.mlog_script.specs.Word.{act_said, HasLawfulPattern};
 use crate::fault::ScriptFaultKind;
 use star_match::has_adjacent_stars;
 
-/// What a word asks, in the word's own bytes.
+/// What a word asks for, in the word's own bytes.
 #[derive(Drop)]
 pub(crate) enum Said<'a> {
     Stamp,
@@ -22,7 +22,7 @@ pub(crate) enum Said<'a> {
     Log(&'a [u8]),
 }
 
-/// What a word asks, or why it asks nothing.
+/// Reads what a word asks for. Returns its fault if it asks for nothing.
 pub(crate) fn read_word(word: &[u8]) -> Result<Said<'_>, ScriptFaultKind>
     ensures ok { IfOk result (λ asked. said word.now ≡ Ok (act_said asked)) }
     ensures pattern { IfOk result (λ asked. HasLawfulPattern (act_said asked)) }
@@ -46,24 +46,24 @@ pub(crate) fn read_word(word: &[u8]) -> Result<Said<'_>, ScriptFaultKind>
 /// The least size of a log.
 pub(crate) const LEAST_SIZE: u64 = 4096;
 
-/// The most bytes that a log's file may have.
+/// The most bytes of a log's file.
 const MOST_SIZE: u64 = 16_777_215;
 
-/// The size that digits set.
+/// Reads the size that digits set.
 fn size_in(digits: &[u8]) -> Result<u64, ScriptFaultKind>
     ensures { result ≡ in_range digits.now LEAST_SIZE MOST_SIZE ScriptFaultKind.SizeRange }
 {
     number_in(digits, LEAST_SIZE, MOST_SIZE, ScriptFaultKind::SizeRange)
 }
 
-/// The number of old files that digits set.
+/// Reads the number of old files that digits set.
 fn keep_in(digits: &[u8]) -> Result<u64, ScriptFaultKind>
     ensures { result ≡ in_range digits.now 2 4294967295 ScriptFaultKind.CountRange }
 {
     number_in(digits, 2, 4_294_967_295, ScriptFaultKind::CountRange)
 }
 
-/// A number in a range.
+/// Reads a number in a range.
 fn number_in(
     digits: &[u8],
     least: u64,
@@ -83,28 +83,28 @@ fn number_in(
     Ok(number)
 }
 
-/// Whether bytes are one digit or more, and nothing else.
+/// Returns whether bytes are one digit or more, and nothing else.
 fn is_number(bytes: &[u8]) -> bool
     ensures { result ≡ is_number bytes.now }
 {
     !bytes.is_empty() && are_digits(bytes)
 }
 
-/// Whether all bytes are digits.
+/// Returns whether all bytes are digits.
 fn are_digits(bytes: &[u8]) -> bool
     ensures { result ≡ list_all is_digit bytes.now }
 {
     bytes.iter().all(|byte| is_digit(*byte))
 }
 
-/// Whether a byte is a digit.
+/// Returns whether a byte is a digit.
 fn is_digit(byte: u8) -> bool
     ensures { result ≡ is_digit byte }
 {
     byte.is_ascii_digit()
 }
 
-/// The number of some digits, or the greatest where it is greater.
+/// Returns the number of some digits, or the greatest `u64` if the number is greater.
 #[tactic(auto, using(crate::proofs::Numbers::number_more))]
 fn number(digits: &[u8]) -> u64
     ensures { result ≡ min (number digits.now) (2 ^ 64 - 1) }
@@ -116,7 +116,7 @@ fn number(digits: &[u8]) -> u64
     number
 }
 
-/// The number that a further digit makes, or the greatest where it is greater.
+/// Returns the number with one more digit, or the greatest `u64` if the number is greater.
 fn with_digit(number: u64, digit: u8) -> u64
     ensures { result ≡ min (number * 10 + (digit - 48)) (2 ^ 64 - 1) }
 {

@@ -1,4 +1,4 @@
--- What holds of a table after an end and after a scan.
+-- Facts about a table after a part ended, and after a scan.
 use Rattle.std.proofs.Common.{◌≡◌, ◌≢◌, ℕ, ◌+◌, ◌<◌, ◌≤◌, true, false, not, ◌==◌, List, [], ◌∷◌, ◌++◌, length, get_or}
 use Rattle.std.proofs.Common.{map, sym, ap, ◌∙◌, refl, arith, Option, Some, None, if◌then◌else◌, subst}
 use Rattle.std.specs.List.{AllPairs, All}
@@ -20,7 +20,7 @@ use Rattle.scan_table.proofs.Searched.{slots-distinct}
 use Rattle.scan_table.proofs.Given.{AllPairs-append, slots-above, slots-rising, slots-numbered, slots-differ, slots-new}
 use Rattle.scan_table.proofs.Given.{restarts-below, numbered-more}
 
--- what holds of pairs after a map that keeps it
+-- a relation of pairs after a map that keeps it
 pub pairs-map : {T : Type 0} (R : T → T → Type 0) (f : T → T) (xs : List T) → ((a b : T) → R a b → R (f a) (f b))
     → AllPairs R xs → AllPairs R (map f xs)
 pairs-map R f xs keeps pairs i j d before within =
@@ -111,7 +111,7 @@ table-ended slots next index part is =
       whole = is.whole ∙ sym (length-map slots (slot_ended part));
     }
 
--- the lives of a part before a number
+-- the lives of a part are below a number
 restarted-below : (next : ℕ) (parts : List PartId) (number : ℕ) (role : Role) (life : Life)
     → All (λ (part : PartId). part.life < next) parts → life.number < next →
     (restarted parts number role life).number < next
@@ -188,7 +188,7 @@ scanned-distinct slots next rows rising distinct =
     (λ slot. All (λ (new : SlotState). slot.name ≢ new.name) (new_slots slots next rows)) slots
     (λ k d b j e w. slots-new slots rows next (eligible rows) j e w k d b)))
 
--- the table that a planned scan leaves
+-- the table after a planned scan
 pub table-scanned : (slots : List SlotState) (next : ℕ) (rows : List Row) (again : List PartId)
     (made after : List SlotState) (counter : ℕ) (index : List ℕ) →
     AllPairs IsBefore slots → All (IsNumbered next) slots → again ≡ restarts slots next rows
@@ -209,7 +209,7 @@ table-scanned slots next rows again made after counter index rising numbered is-
       whole = whole;
     }
 
--- no name twice in it
+-- no name occurs twice in it
 pub planned-distinct : (slots : List SlotState) (next : ℕ) (rows : List Row) (again : List PartId)
     (made : List SlotState) (index : List ℕ) →
     AreRising rows → IsTable slots next index → again ≡ restarts slots next rows → made ≡ new_slots slots next rows →
@@ -232,7 +232,7 @@ kept-fits (slot ∷ slots) rows =
       | false ↦ omega (arith, rest)
     ]
 
--- no more slots than there were, and the new ones
+-- there are at most as many slots as before, plus the new ones
 pub length-after : (slots : List SlotState) (rows : List Row) (again : List PartId) (made : List SlotState) →
     length (map (renewed again) (kept slots rows) ++ made) ≤ length slots + length made
 length-after slots rows again made =
@@ -244,7 +244,7 @@ length-after slots rows again made =
       kept-length,
     )
 
--- it is the scanned one
+-- it is the table of the definition
 pub table-is : (slots : List SlotState) (next : ℕ) (rows : List Row) (again : List PartId) (made after : List SlotState)
     (counter : ℕ) →
     again ≡ restarts slots next rows → made ≡ new_slots slots next rows → counter ≡ next + needs slots rows →

@@ -1,4 +1,4 @@
--- One slot more, dropped or kept.
+-- One more slot, dropped or kept.
 use Rattle.std.proofs.Common.{◌≡◌, ℕ, ◌+◌, ◌<◌, true, false, List, [], ◌∷◌, ◌++◌, length, get_or, drop, sym, ap, ◌∙◌}
 use Rattle.std.proofs.Common.{refl, arith, suc, append_assoc}
 use Rattle.std.proofs.Math.Seq.{drop-cons}

@@ -34,7 +34,7 @@ pairs-head R x xs pairs k d b = pairs 0 (suc k) d (omega arith) (omega arith)
 pub pairs-tail : {T : Type 0} (R : T → T → Type 0) (x : T) (xs : List T) → AllPairs R (x ∷ xs) → AllPairs R xs
 pairs-tail R x xs pairs i j d b w = pairs (suc i) (suc j) d (omega arith) (omega arith)
 
--- what one row is given: nothing, or a new slot
+-- what one row gets: nothing, or a new slot
 data Gift (slots : List SlotState) (rows : List Row) (n : ℕ) (row : Row) : Type 0 where
   Nothing : new_slots_at slots rows n row ≡ [] → Gift slots rows n row
   ASlot : new_slots_at slots rows n row ≡ new_slot n row ∷ [] → need slots rows row ≡ 1 + length (roles_of row)
@@ -55,7 +55,7 @@ gift slots rows n row =
 abbrev slots_from : List SlotState → List Row → ℕ → List Row → List SlotState
 slots_from slots rows n rest = in_turn (need slots rows) (new_slots_at slots rows) n rest
 
--- What holds of each row's new slot holds of all.
+-- What is true of each row's new slot is true of all new slots.
 pub all-slots : (P : SlotState → Type 0) (slots : List SlotState) (rows : List Row) (n : ℕ) (row : Row)
     (rest : List Row) →
     (new_slots_at slots rows n row ≡ new_slot n row ∷ [] → need slots rows row ≡ 1 + length (roles_of row)
@@ -70,7 +70,7 @@ all-slots P slots rows n row rest here later =
     ])
     later
 
--- The numbers of new slots are given from n on.
+-- The numbers of new slots are n or more.
 pub slots-above : (slots : List SlotState) (rows : List Row) (low n : ℕ) (rest : List Row) → low ≤ n →
     All (λ (slot : SlotState). low ≤ slot.number) (slots_from slots rows n rest)
 slots-above slots rows low n [] le = All-nil (λ (slot : SlotState). low ≤ slot.number)
@@ -119,7 +119,7 @@ slots-numbered slots rows n (row ∷ rest) =
     (omega (arith, needs)) (new-numbered n row))
     (slots-numbered slots rows (n + need slots rows row) rest))
 
--- one row's new slot before those of later rows
+-- one row's new slot comes before those of later rows
 pairs-slots : (R : SlotState → SlotState → Type 0) (slots : List SlotState) (rows : List Row) (n : ℕ) (row : Row)
     (rest : List Row) →
     (need slots rows row ≡ 1 + length (roles_of row)
@@ -145,7 +145,7 @@ slots-rising slots rows n (row ∷ rest) =
     (slots-above slots rows (n + 1) (n + need slots rows row) rest (omega (arith, needs))))
     (slots-rising slots rows (n + need slots rows row) rest)
 
--- What holds of each row's name holds of each new slot's.
+-- What is true of each row's name is true of each new slot's name.
 slots-named : (P : List ℕ → Type 0) (slots : List SlotState) (rows : List Row) (n : ℕ) (rest : List Row) →
     All (λ (row : Row). P row.name) rest → All (λ (slot : SlotState). P slot.name) (slots_from slots rows n rest)
 slots-named P slots rows n [] all = All-nil (λ (slot : SlotState). P slot.name)
@@ -165,7 +165,7 @@ slots-differ slots rows n (row ∷ rest) pairs =
     (λ other less. below-differs row.name other.name less) rest (pairs-head IsBelow row rest pairs)))
     (slots-differ slots rows (n + need slots rows row) rest (pairs-tail IsBelow row rest pairs))
 
--- where no slot has a row's name
+-- if no slot has a row's name
 none-named : (slots : List SlotState) (row : Row) → slot_of slots row ≡ None
     → All (λ (slot : SlotState). slot.name ≢ row.name) slots
 none-named [] row none = All-nil (λ (slot : SlotState). slot.name ≢ row.name)
@@ -180,7 +180,7 @@ none-named (slot ∷ slots) row none =
           (none-named slots row e)
     ] refl none
 
--- A new slot's name is none of the old ones.
+-- A new slot has a name that no old slot has.
 pub slots-new : (slots : List SlotState) (rows : List Row) (n : ℕ) (rest : List Row) →
     All (λ (new : SlotState). All (λ (slot : SlotState). slot.name ≢ new.name) slots) (slots_from slots rows n rest)
 slots-new slots rows n [] = All-nil (λ (new : SlotState). All (λ (slot : SlotState). slot.name ≢ new.name) slots)

@@ -1,4 +1,4 @@
--- An index and one more name.
+-- An index with one more name.
 use Rattle.std.proofs.Common.{◌≡◌, ◌≢◌, ℕ, ◌+◌, ◌-◌, ◌<◌, ◌≤◌, List, [], length, get_or, sym, ap, ◌∙◌, arith, inl, inr}
 use Rattle.std.proofs.Common.{Err}
 use Rattle.std.specs.List.{insert, AllPairs}
@@ -10,7 +10,7 @@ use Rattle.scan_table.specs.Slots.{name_order}
 use Rattle.scan_table.specs.Index.{IsIndex, name_at, IsSearched}
 use Rattle.scan_table.proofs.Orders.{above-below, below-differs}
 
--- the places of an index after a new one: those before it, it, and those after it
+-- the places of an index after a new one is added: those before it, its own, and those after it
 data Place (index : List ℕ) (at : ℕ) (new : ℕ) (k : ℕ) : Type 0 where
   Before : k < at → get_or (insert index at new) k 0 ≡ get_or index k 0 → Place index at new k
   Here : k ≡ at → get_or (insert index at new) k 0 ≡ new → Place index at new k
@@ -32,7 +32,7 @@ place_of index at new k fits =
       ]
     ]
 
--- two names that stand so are those at two places
+-- two names that compare in this way are those at two places
 stands : (names : List (List ℕ)) (m : List ℕ) (j k p q : ℕ) → get_or m j 0 ≡ p → get_or m k 0 ≡ q
     → name_order (get_or names p []) (get_or names q []) ≡ Less →
     name_order (name_at names m j) (name_at names m k) ≡ Less
@@ -40,7 +40,7 @@ stands names m j k p q e f less =
     ap (λ x. name_order (get_or names x []) (name_at names m k)) e
     ∙ ap (λ x. name_order (get_or names p []) (get_or names x [])) f ∙ less
 
--- A new name between the smaller and the greater ones is in the index where its place is.
+-- If a new name is put between the smaller and the greater ones, the index stays an index.
 pub index-insert : (names : List (List ℕ)) (index : List ℕ) (at : ℕ) (name : List ℕ) → IsIndex names index
     → get_or names (length index) [] ≡ name →
     IsSearched names index name (Err at) → IsIndex names (insert index at (length index))
@@ -112,7 +112,7 @@ index-none names =
       all = λ place b. absurd (omega arith);
     }
 
--- A whole index's names are distinct.
+-- The names of an index of all names are distinct.
 pub index-distinct : (names : List (List ℕ)) (index : List ℕ) → IsIndex names index → length index ≡ length names
     → AllPairs (λ a b. a ≢ b) names
 index-distinct names index is whole i j d before b =

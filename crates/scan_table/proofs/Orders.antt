@@ -1,4 +1,4 @@
--- The byte order of names, and what it says of two names.
+-- The byte order of names, and what it means for two names.
 use Rattle.std.proofs.Common.{◌≡◌, ◌≢◌, ℕ, true, false, List, sym, ap, ◌∙◌, refl, subst}
 use Rattle.std.specs.Ordering.{is_eq, ordering_reverse}
 use Rattle.std.specs.declared.cmp.Ordering.TheVariants.{Less, Equal, Greater}
@@ -14,7 +14,7 @@ below-differs a b less same =
     let f : Less ≡ Equal = sym e ∙ tied_itself nat_list_cmp_total a in
     cc
 
--- a name above another is below it the other way
+-- if a name is above another, the other is below it
 pub above-below : (a b : List ℕ) → name_order a b ≡ Greater → name_order b a ≡ Less
 above-below a b greater =
     nat_list_cmp_total.antisymm b a ∙ ap ordering_reverse greater

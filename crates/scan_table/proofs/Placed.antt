@@ -1,4 +1,4 @@
--- What is done to the slot of one number.
+-- What is done to the slot with one number.
 use Rattle.std.proofs.Common.{◌≡◌, ◌≢◌, ℕ, ◌<◌, ◌≤◌, Bool, true, false, not, ◌&&◌, ◌==◌, List, [], ◌∷◌, length, get_or}
 use Rattle.std.proofs.Common.{set, map, drop, ◌+◌, sym, ap, ◌∙◌, refl, arith, inl, inr, zero, suc, Some, None}
 use Rattle.std.specs.List.{AllPairs, list_any}
@@ -33,7 +33,7 @@ others slots number place rising at k d within other =
           rising place k d (omega arith) within in λ same. absurd (omega arith)
     ]
 
--- where f leaves each element as it is
+-- if f leaves each element as it is
 pub map-none : {T : Type 0} (f : T → T) (xs : List T)
     → ((k : ℕ) (d : T) → k < length xs → f (get_or xs k d) ≡ get_or xs k d) → map f xs ≡ xs
 map-none f [] h = refl
@@ -41,7 +41,7 @@ map-none f (x ∷ xs) h =
     ap (λ y. y ∷ map f xs) (h 0 x (omega arith))
     ∙ ap (λ ys. x ∷ ys) (map-none f xs (λ k d b. h (suc k) d (omega arith)))
 
--- where f leaves each other element as it is
+-- if f leaves each other element as it is
 pub map-one : {T : Type 0} (f : T → T) (xs : List T) (place : ℕ) (old : T) → place < length xs
     → old ≡ get_or xs place old →
     ((k : ℕ) (d : T) → k < length xs → k ≢ place → f (get_or xs k d) ≡ get_or xs k d) → set xs place (f old) ≡ map f xs
@@ -83,7 +83,7 @@ other-running part slot other =
     let no : (slot.number == part.slot) ≡ false = grind (arith, nat_tests) in
     rw no refl
 
--- the element at a place, whatever is read past the end
+-- the element at a place, with any default for places past the end
 again : {T : Type 0} (xs : List T) (place : ℕ) (d : T) → place < length xs
     → get_or xs place d ≡ get_or xs place (get_or xs place d)
 again xs place d within = get_or_default xs place d (get_or xs place d) within
@@ -168,7 +168,7 @@ renewed-all part parts (slot ∷ slots) =
     ap (λ x. x ∷ map (renewed parts) (map (renewed (part ∷ [])) slots)) (renewed-more part parts slot) ∙
     ap (λ xs. renewed (part ∷ parts) slot ∷ xs) (renewed-all part parts slots)
 
--- Slots that are renewed rise as before.
+-- Renewed slots rise as before.
 pub renewed-rising : (parts : List PartId) (slots : List SlotState) → AllPairs IsBefore slots
     → AllPairs IsBefore (map (renewed parts) slots)
 renewed-rising parts slots rising i j d before within =
@@ -180,7 +180,7 @@ renewed-rising parts slots rising i j d before within =
     let less : (get_or slots i d).number < (get_or slots j d).number = rising i j d before w in
     omega (arith, a, b, less)
 
--- one part more
+-- one more part
 pub renewed-next : (parts : List PartId) (i : ℕ) (d : PartId) (slots slots' whole : List SlotState) → i < length parts →
     slots' ≡ map (renewed (get_or parts i d ∷ [])) slots → map (renewed (drop i parts)) slots ≡ whole
     → map (renewed (drop (i + 1) parts)) slots' ≡ whole
@@ -191,7 +191,7 @@ renewed-next parts i d slots slots' whole within is so =
     ap (map (renewed (drop (i + 1) parts))) is ∙ renewed-all (get_or parts i d) (drop (i + 1) parts) slots ∙
     ap (λ ps. map (renewed ps) slots) (sym next) ∙ so
 
--- no part more
+-- no more parts
 pub renewed-last : (parts : List PartId) (i : ℕ) (slots whole : List SlotState) → length parts ≤ i →
     map (renewed (drop i parts)) slots ≡ whole → slots ≡ whole
 renewed-last parts i slots whole end so =

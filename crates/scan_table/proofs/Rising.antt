@@ -1,4 +1,4 @@
--- Rising names differ, each from each.
+-- Rising names are all different.
 use Rattle.std.proofs.Common.{◌≡◌, ℕ, ◌+◌, ◌-◌, ◌<◌, ◌≤◌, true, false, List, length, drop, slice_index_or, nat_le, sym}
 use Rattle.std.proofs.Common.{ap, ◌∙◌, refl, zero, suc, arith}
 use Rattle.std.specs.List.{list_any, AllPairs}

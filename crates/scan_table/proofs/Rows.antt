@@ -1,4 +1,4 @@
--- What a search by halves finds among rows.
+-- What a binary search finds among rows.
 use Rattle.std.proofs.Common.{◌≡◌, ◌≢◌, ℕ, ◌+◌, ◌<◌, ◌≤◌, Bool, true, false, ◌&&◌, ◌||◌, List, [], ◌∷◌, length, get_or}
 use Rattle.std.proofs.Common.{drop, sym, ap, ◌∙◌, refl, arith, inl, inr, if◌then◌else◌, Some, None, zero, suc, ◌-◌}
 use Rattle.std.specs.List.{list_any, filter, AllPairs, AllAdjacentBelow}
@@ -18,7 +18,7 @@ use Rattle.scan_table.proofs.Rising.{rising-pairs}
 use Rattle.scan_table.proofs.Orders.{above-below, equal-same, same-named, differs-named, below-differs}
 use Rattle.scan_table.proofs.Placed.{any-one}
 
--- how the name of the row at a place stands to another, as a comparison reports
+-- how the name of the row at a place compares with another, as the comparison returns it
 pub row-read : (rows : List Row) (place : ℕ) (row : Row) (word name other : List ℕ) (reported order : Ordering)
     → place < length rows →
     row ≡ get_or rows place row → word ≡ row.name → other ≡ name → reported ≡ name_order word other → reported ≡ order →
@@ -64,7 +64,7 @@ any-filter p q (x ∷ xs) =
       | false ↦ any-filter p q xs
     ]
 
--- whether the row of a slot's name is eligible
+-- whether the row with a slot's name is eligible
 abbrev serves : SlotState → Row → Bool
 serves slot row = is_eligible row && is_name row.name slot.name
 
@@ -73,7 +73,7 @@ other-serves slot row other =
     let no : is_name row.name slot.name ≡ false = differs-named row.name slot.name other in
     elim (is_eligible row) as (λ b. (b && is_name row.name slot.name) ≡ false) [ true ↦ no | false ↦ refl ]
 
--- The row of a slot's name says whether the slot has an eligible row.
+-- The row with a slot's name shows whether the slot has an eligible row.
 pub row-found : (rows : List Row) (middle : ℕ) (row : Row) (slot : SlotState) (result : Bool) → AreRising rows
     → middle < length rows → row ≡ get_or rows middle row →
     ((d : Row) → name_order (get_or rows middle d).name slot.name ≡ Equal) → result ≡ is_eligible row
@@ -97,7 +97,7 @@ row-found rows middle row slot result rising within read equal is =
     ])) ∙
     sym (any-filter (λ (r : Row). is_name r.name slot.name) is_eligible rows)
 
--- no row of a name
+-- no row has a name
 pub row-nowhere : (rows : List Row) (name : List ℕ) (low high : ℕ) → high ≤ low →
     ((k : ℕ) (d : Row) → k < low → name_order (get_or rows k d).name name ≡ Less) →
     ((k : ℕ) (d : Row) → high ≤ k → k < length rows → name_order (get_or rows k d).name name ≡ Greater)
@@ -109,13 +109,13 @@ row-nowhere rows name low high met below above k d b =
           (above-below (get_or rows k d).name name (above k d (omega arith) b)) (sym e)
     ]
 
--- no row of a slot's name
+-- no row has a slot's name
 pub row-missing : (rows : List Row) (slot : SlotState) → HasNoRow rows slot.name → false ≡ has_row rows slot
 row-missing rows slot none =
     sym (any-filter (λ (r : Row). is_name r.name slot.name) is_eligible rows ∙
     list_any_none (serves slot) rows (λ k d b. other-serves slot (get_or rows k d) (none k d b)))
 
--- The row at the place of a name is the one that the name has.
+-- The row at the place of a name is the row with that name.
 pub row-here : (rows : List Row) (name : List ℕ) (place : ℕ) (row : Row) → AllPairs IsBelow rows
     → IsRowAt rows name place → row ≡ get_or rows place row →
     Some row ≡ row_of rows name
@@ -150,12 +150,12 @@ order-next rows place d before here within is-here =
     ap (order_fault_after place before.name) (drop-cons rows place d within
     ∙ ap (λ x. x ∷ drop (suc place) rows) (sym is-here) ∙ ap (λ n. here ∷ drop n rows) e)
 
--- none are left
+-- no rows are left
 pub order-last : (rows : List Row) (place : ℕ) (name : List ℕ) → length rows ≤ place
     → order_fault_after place name (drop place rows) ≡ None
 order-last rows place name end = ap (order_fault_after place name) (drop_of_length-le rows end)
 
--- The faults from a place on are those that the order of the names there reports, and those after it.
+-- The faults from a place on are the fault that the order of the names there gives, and those after it.
 pub order-reported : (rows : List Row) (place : ℕ) (before here : Row) (one two : List ℕ) (reported order : Ordering)
     → 0 < place → place < length rows →
     before ≡ get_or rows (place - 1) before → here ≡ get_or rows place here → one ≡ before.name → two ≡ here.name
@@ -170,7 +170,7 @@ order-reported rows place before here one two reported order after within is-bef
     ap (λ o. fault_at place o (order_fault_after (place + 1) here.name (drop (place + 1) rows)))
     (ap (λ x. name_order x here.name) (sym is-one) ∙ ap (λ x. name_order one x) (sym is-two) ∙ sym cmp ∙ so)
 
--- one name more that is greater
+-- one more name that is greater
 pub order-more : (rows : List Row) (place : ℕ) (here : Row) → place < length rows → here ≡ get_or rows place here →
     order_fault rows ≡ order_fault_after (place + 1) here.name (drop (place + 1) rows) →
     (d : Row) → 0 < length rows
@@ -181,7 +181,7 @@ order-more rows place here within is-here so d some =
     ∙ get_or_default rows place here d within)
     ∙ ap (λ n. order_fault_after (place + 1) (get_or rows n d).name (drop (place + 1) rows)) e
 
--- no fault where no rows are left
+-- there is no fault if no rows are left
 pub order-none : (rows : List Row) (place : ℕ) → length rows ≤ place →
     ((d : Row) → 0 < length rows
     → order_fault rows ≡ order_fault_after place (get_or rows (place - 1) d).name (drop place rows))
@@ -196,7 +196,7 @@ pub order-begins : (rows : List Row) (d : Row) → 0 < length rows
 order-begins [] d some = absurd (omega arith)
 order-begins (row ∷ rows) d some = refl
 
--- one place more where the names rise
+-- one more place, if the names rise
 pub rising-more : (rows : List Row) (place : ℕ) (before here : Row) (one two : List ℕ) (reported : Ordering) → 0 < place
     → place < length rows →
     before ≡ get_or rows (place - 1) before → here ≡ get_or rows place here → one ≡ before.name → two ≡ here.name

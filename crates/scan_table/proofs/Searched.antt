@@ -1,4 +1,4 @@
--- What a search by halves finds.
+-- What a binary search finds.
 use Rattle.std.proofs.Common.{◌≡◌, ◌≢◌, ℕ, ◌+◌, ◌<◌, ◌≤◌, true, false, List, [], ◌∷◌, length, get_or, sym, ap, ◌∙◌}
 use Rattle.std.proofs.Common.{refl, arith, inl, inr, zero, suc, Some, None, subst, Result, Ok, Err, ◌⊎◌}
 use Rattle.std.specs.List.{AllPairs, All, insert}
@@ -52,7 +52,7 @@ name-read slots index k slot read within =
     get_or-map (λ (s : SlotState). s.name) slots (get_or index k 0) slot [] within
     ∙ sym (ap (λ (s : SlotState). s.name) read)
 
--- how the name at a place stands to another, as a comparison reports
+-- how the name at a place compares with another, as the comparison returns it
 pub order-read : (slots : List SlotState) (index : List ℕ) (k : ℕ) (slot : SlotState) (word name : List ℕ)
     (reported order : Ordering) →
     slot ≡ get_or slots (get_or index k 0) slot → get_or index k 0 < length slots → word ≡ slot.name
@@ -61,7 +61,7 @@ pub order-read : (slots : List SlotState) (index : List ℕ) (k : ℕ) (slot : S
 order-read slots index k slot word name reported order read within is cmp so =
     ap (λ x. name_order x name) (name-read slots index k slot read within ∙ sym is) ∙ sym cmp ∙ so
 
--- where no two slots have one name, the slot of a name at a place
+-- if no two slots have the same name, the slot with a name is at a place
 pub slot-here : (slots : List SlotState) (row : Row) (place : ℕ) (slot : SlotState)
     → AllPairs (λ (a : SlotState) (b : SlotState). a.name ≢ b.name) slots →
     place < length slots → slot ≡ get_or slots place slot → slot.name ≡ row.name → slot_of slots row ≡ Some slot
@@ -77,7 +77,7 @@ slot-here (first ∷ slots) row (suc place) slot distinct within read same =
     rw no (slot-here slots row place slot (λ i j d b w. distinct (suc i) (suc j) d (omega arith) (omega arith))
     (omega arith) read same)
 
--- where no slot has a name
+-- if no slot has a name
 pub slot-nowhere : (slots : List SlotState) (row : Row) → All (λ (slot : SlotState). slot.name ≢ row.name) slots
     → slot_of slots row ≡ None
 slot-nowhere [] row none = refl
@@ -150,7 +150,7 @@ searched-some slots index row name at slot is whole searched named read =
     ∙ equal-same (name_at (names_of slots) index at) name searched.1 ∙ named in
     sym (slot-here slots row (get_or index at 0) slot (slots-distinct slots index is whole) within read same)
 
--- What a search answers for a new name is where it is to be put.
+-- For a new name, the result of a search is the place at which to put it.
 pub searched-new : (slots : List SlotState) (index : List ℕ) (name : List ℕ) (slot : SlotState) (result : Result ℕ ℕ)
     (at : ℕ) → IsIndex (names_of slots) index → length index < length slots →
     AllPairs (λ (a : SlotState) (b : SlotState). a.name ≢ b.name) slots → slot ≡ get_or slots (length index) slot
@@ -181,7 +181,7 @@ pub number-read : (slots : List SlotState) (place : ℕ) (slot : SlotState) (her
 number-read slots place slot here within read is d =
     ap (λ (s : SlotState). s.number) (get_or_default slots place d slot within ∙ sym read) ∙ sym is
 
--- the names before the place of a name are passed
+-- the names before the place of a name are smaller
 pub found-passed : (names : List (List ℕ)) (index : List ℕ) (name : List ℕ) (at : ℕ) → IsIndex names index
     → IsSearched names index name (Ok at) →
     ArePassed names index at name
@@ -189,7 +189,7 @@ found-passed names index name at is searched k below =
     ap (name_order (name_at names index k)) (sym (equal-same (name_at names index at) name searched.1))
     ∙ is.rising k at below searched.0
 
--- Names that are passed at a row are passed at all later ones.
+-- Names that are smaller than a row's name are smaller than all later ones.
 pub passed-on : (names : List (List ℕ)) (index : List ℕ) (at : ℕ) (rows : List Row) (i : ℕ) (row : Row) → AreRising rows
     → i < length rows → row ≡ get_or rows i row →
     ArePassed names index at row.name → (j : ℕ) (d : Row) → i + 1 ≤ j → j < length rows

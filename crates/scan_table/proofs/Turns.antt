@@ -1,4 +1,4 @@
--- What a row's turn is worth.
+-- What one row contributes to a scan.
 use Rattle.std.proofs.Common.{◌≡◌, ℕ, ◌+◌, ◌-◌, ◌<◌, ◌≤◌, Bool, true, false, List, [], ◌∷◌, ◌++◌, length, take, drop}
 use Rattle.std.proofs.Common.{filter, slice_index_or, nat_le, sym, ap, ◌∙◌, refl, Some, None, is_none, zero, suc, map}
 use Rattle.std.proofs.Common.{arith, append_assoc, ◌^◌, nat_lt, ◌&&◌, if◌then◌else◌}
@@ -16,13 +16,13 @@ use Rattle.scan_table.specs.Scan.{in_turn, new_slots_at, new_slots_where, restar
 use Rattle.scan_table.specs.Turns.{turn_need, is_counted, row_slots, turn_restarts, turn_refused}
 use Rattle.scan_table.proofs.Rising.{rising-pairs, among-later}
 
--- the new names of a front and a rest
+-- the new names of a first part and a rest
 new_rows-append : (slots : List SlotState) (xs ys : List Row) → new_rows slots (xs ++ ys) ≡ new_rows slots xs
     ++ new_rows slots ys
 new_rows-append slots xs ys = ap (filter (is_new slots)) (filter-append is_eligible xs ys)
     ∙ filter-append (is_new slots) (eligible xs) (eligible ys)
 
--- a new name at the head
+-- a new name at the beginning
 new_rows-head : (slots : List SlotState) (row : Row) (rows : List Row) → is_eligible row ≡ true
     → is_new slots row ≡ true →
     new_rows slots (row ∷ rows) ≡ row ∷ new_rows slots rows
@@ -45,7 +45,7 @@ pub parted : (rows : List Row) (i : ℕ) (d : Row) → i < length rows
     → take i rows ++ slice_index_or rows i d ∷ drop (i + 1) rows ≡ rows
 parted rows i d within = ap (λ xs. take i rows ++ xs) (sym (drop-next rows i d within)) ∙ take-append-drop i rows
 
--- A new name is refused where as many new names as there is room for stand before it.
+-- A new name is refused if the new names before it already take all the room.
 pub refused-at : (slots : List SlotState) (rows : List Row) (before : List Row) (row : Row) (after : List Row) →
     before ++ row ∷ after ≡ rows → AreRising rows → is_eligible row ≡ true → is_new slots row ≡ true →
     is_refused slots rows row ≡ nat_le (room slots rows) (length (new_rows slots before))
@@ -60,7 +60,7 @@ refused-at slots rows before row after whole rising is new =
     (λ d. ap (λ xs. slice_index_or xs (length (new_rows slots before)) d) ns
     ∙ get_or-append_seam (new_rows slots before) row (new_rows slots after) d)
 
--- what a row needs, reported by the count of new names before it
+-- what a row needs, by the count of new names before it
 pub need-at : (slots : List SlotState) (rows : List Row) (before : List Row) (row : Row) (after : List Row) →
     before ++ row ∷ after ≡ rows → AreRising rows → is_eligible row ≡ true →
     need slots rows row ≡ need_where (nat_le (room slots rows) (length (new_rows slots before))) row (slot_of slots row)
@@ -107,7 +107,7 @@ count-one slots row =
       | false ↦ refl
     ]
 
--- the new names, counted
+-- the count of the new names
 pub row-new : (slots : List SlotState) (rows : List Row) (i : ℕ) (d : Row) → i < length rows →
     length (new_rows slots (take (i + 1) rows)) ≡ length (new_rows slots (take i rows))
     + (if is_counted slots (slice_index_or rows i d) then 1 else 0)
@@ -117,7 +117,7 @@ row-new slots rows i d within =
     length-append (new_rows slots (take i rows)) (new_rows slots (slice_index_or rows i d ∷ [])) ∙
     ap (λ n. length (new_rows slots (take i rows)) + n) (count-one slots (slice_index_or rows i d))
 
--- a row's gift, and those of the rest
+-- what a row gets, and what the rest gets
 turn-assigned : {T : Type 0} (slots : List SlotState) (rows : List Row) (gift : ℕ → Row → List T) (n : ℕ)
     (before : List Row) (row : Row) (after : List Row) →
     before ++ row ∷ after ≡ rows → AreRising rows →
@@ -158,7 +158,7 @@ pub within-need : (left need rest whole : ℕ) → whole ≡ need + rest → nee
     → nat_lt (left - need) rest ≡ nat_lt left whole
 within-need left need rest whole e h = grind (arith, nat_tests)
 
--- the starts of a row, reported by the count of new names before it
+-- the new slots of a row, by the count of new names before it
 turn-slots : (slots : List SlotState) (rows : List Row) (n : ℕ) (before : List Row) (row : Row) (after : List Row) →
     before ++ row ∷ after ≡ rows → AreRising rows →
     (if is_eligible row then new_slots_at slots rows n row else [])
@@ -207,7 +207,7 @@ pub number-turn : (n n' need rest sum whole : ℕ) → sum ≡ need + rest → n
     → n' + rest ≡ whole
 number-turn n n' need rest sum whole e f g = omega arith
 
--- The same four laws in a loop's words: a row that stands at i, a count of new names, and a room.
+-- The same four laws in the words of a loop: a row at place i, a count of new names, and a room.
 pub needs-turned : (slots : List SlotState) (rows : List Row) (i made r : ℕ) (d row : Row) → i < length rows
     → AreRising rows →
     slice_index_or rows i d ≡ row → made ≡ length (new_rows slots (take i rows)) → r ≡ room slots rows →
@@ -255,7 +255,7 @@ restarts-turned slots rows n n' i made r d row list list' whole within rising at
     (in_turn (need slots rows) (restarts_at slots rows) n' (eligible (drop (i + 1) rows))) whole all
     (rw (n-is, sym at, made-is, r-is) (row-assigned slots rows (restarts_at slots rows) n i d within rising)) more
 
--- what is left behind a place of a list with one more element
+-- what is left after a place of a list with one more element
 drop-one : {T : Type 0} (r : ℕ) (xs : List T) (y : T)
     → drop r (xs ++ y ∷ []) ≡ drop r xs ++ (if nat_le r (length xs) then y ∷ [] else [])
 drop-one zero xs y =
@@ -268,7 +268,7 @@ drop-one (suc r) (x ∷ xs) y =
     let same : nat_le (suc r) (length (x ∷ xs)) ≡ nat_le r (length xs) = grind (arith, nat_tests) in
     drop-one r xs y ∙ ap (λ b. drop r xs ++ (if b then y ∷ [] else [])) (sym same)
 
--- what a list is after the elements that are behind a place
+-- a list from one place on, if it may have one more element
 drop-more : {T : Type 0} (r : ℕ) (xs : List T) (b : Bool) (y : T) →
     drop r (xs ++ (if b then y ∷ [] else [])) ≡ drop r xs ++ (if b && nat_le r (length xs) then y ∷ [] else [])
 drop-more r xs true y = drop-one r xs y

@@ -1,4 +1,4 @@
--- What the rows of whole services count for.
+-- The rows of services with no ended part make no difference.
 use Rattle.std.proofs.Common.{◌≡◌, ◌≢◌, ℕ, ◌+◌, ◌-◌, ◌<◌, Bool, true, false, not, ◌&&◌, if◌then◌else◌, List, [], ◌∷◌}
 use Rattle.std.proofs.Common.{◌++◌, length, get_or, map, filter, drop, sym, ap, ◌∙◌, refl, arith, Some, None, is_none}
 use Rattle.std.proofs.Common.{Ok, Err}
@@ -21,11 +21,11 @@ use Rattle.scan_table.proofs.Orders.{named-same}
 use Rattle.scan_table.specs.Index.{IsIndex, IsSearched, names_of}
 use Rattle.scan_table.proofs.Searched.{slot-here, slot-nowhere, searched-some, searched-none}
 
--- whether a row is of another name
+-- whether a row has another name than these services
 abbrev counts : List SlotState → Row → Bool
 counts slots row = not (is_whole slots row.name)
 
--- The slot of a row is that of its name.
+-- The slot of a row is the slot with its name.
 pub row-named : (slots : List SlotState) (row : Row) → slot_of slots row ≡ slot_named slots row.name
 row-named [] row = refl
 row-named (slot ∷ slots) row =
@@ -38,7 +38,7 @@ row-named (slot ∷ slots) row =
 abbrev is_role : SlotPart → Role
 is_role part = part.role
 
--- No part that has not ended is to restart.
+-- A part that has not ended does not restart.
 none-restart : (slot : SlotState) → none_ended slot ≡ true → ended_roles slot ≡ []
 none-restart slot none =
     elim slot.log as (λ log.
@@ -65,7 +65,7 @@ none-restart slot none =
           ]
     ] none
 
--- A whole slot has not ended.
+-- A slot with no ended part has not ended.
 none-all : (slot : SlotState) → none_ended slot ≡ true → all_ended slot ≡ false
 none-all slot none =
     elim slot.main.has_ended as (λ b.
@@ -75,7 +75,7 @@ none-all slot none =
       | false ↦ λ e. refl
     ] none
 
--- what is left of a list by two tests, where the second keeps all that the first does
+-- what two tests leave of a list, if the second keeps all that the first keeps
 filter-weaker : {X : Type 0} (p q : X → Bool) → ((x : X) → p x ≡ true → q x ≡ true) → (xs : List X)
     → filter p (filter q xs) ≡ filter p xs
 filter-weaker p q keeps [] = refl
@@ -123,7 +123,7 @@ eligible-others : (slots : List SlotState) (rows : List Row) → eligible (other
     ≡ filter (counts slots) (eligible rows)
 eligible-others slots rows = filter-swap is_eligible (counts slots) rows
 
--- A new name is no whole service's.
+-- A new name is not that of such a service.
 new-counts : (slots : List SlotState) (row : Row) → is_new slots row ≡ true → counts slots row ≡ true
 new-counts slots row new =
     elim (slot_named slots row.name) as (λ s. is_none s ≡ true → not (is_whole_slot s) ≡ true) [
@@ -136,7 +136,7 @@ new-others slots rows =
     ap (filter (is_new slots)) (eligible-others slots rows)
     ∙ filter-weaker (is_new slots) (counts slots) (new-counts slots) (eligible rows)
 
--- A slot that is not whole keeps its row.
+-- A slot with an ended part keeps its row.
 row-counts : (slots : List SlotState) (place : ℕ) (slot : SlotState)
     → AllPairs (λ (a : SlotState) (b : SlotState). a.name ≢ b.name) slots →
     place < length slots → slot ≡ get_or slots place slot → none_ended slot ≡ false → (row : Row)
@@ -221,7 +221,7 @@ refused_rows-others slots rows distinct =
     (kept-others slots rows distinct) ∙
     ap (drop (room slots rows)) (new-others slots rows)
 
--- what a row needs where these rows are refused
+-- what a row needs, if these rows are refused
 abbrev need_with : List SlotState → List Row → Row → ℕ
 need_with slots refuse row =
     need_where (list_any (λ (other : Row). is_name row.name other.name) refuse) row (slot_of slots row)
@@ -260,7 +260,7 @@ again-none slots n row idle =
     let found = whole-slot slots row idle in
     ap (restarts_where n) found.1 ∙ ap (lives_from n found.0.number) found.2
 
--- what comes in turn of the rows that count, where the others need and give nothing
+-- what the counting rows get in turn, if the others need and get nothing
 turns-others : {T : Type 0} (q : Row → Bool) (need : Row → ℕ) (gift : ℕ → Row → List T)
     → ((row : Row) → q row ≡ false → need row ≡ 0) →
     ((n : ℕ) (row : Row) → q row ≡ false → gift n row ≡ []) → (n : ℕ) (rows : List Row)

@@ -22,14 +22,14 @@ first_scan = refl
 abbrev one_row : List Row
 one_row = record { name = codes "a"; is_dir = true; has_log = false; down = false; log_down = false } ∷ []
 
--- one directory needs two numbers: from `2 ^ 64 - 2` there are too few, from `2 ^ 64 - 3` there are enough
+-- one directory needs two numbers: from `2 ^ 64 - 2` on too few are left, from `2 ^ 64 - 3` on enough
 pub too_few : is_exhausted [] 18446744073709551614 one_row ≡ true
 too_few = refl
 
 pub enough : is_exhausted [] 18446744073709551613 one_row ≡ false
 enough = refl
 
--- a pair whose log has ended restarts its log alone; where its row is gone it stays, since its main part has not ended
+-- a pair whose log has ended restarts only its log; if its row is gone it stays, since its main part has not ended
 abbrev pair : List SlotState
 pair = record {
   number = 0;

@@ -14,17 +14,17 @@ names_of slots = map (λ (slot : SlotState). slot.name) slots
 abbrev pub name_at : List (List ℕ) → List ℕ → ℕ → List ℕ
 name_at names index place = slice_index_or names (slice_index index place) []
 
--- An index of the first names, as many as it has places: each of these names once, in byte order.
+-- An index of the first names, one for each of its places: each of these names once, in byte order.
 pub record IsIndex (names : List (List ℕ)) (index : List ℕ) : Type 0 where
   pub within : (k : ℕ) → k < length index → slice_index index k < length index
   pub rising : (j k : ℕ) → j < k → k < length index → name_order (name_at names index j) (name_at names index k) ≡ Less
   pub all : (place : ℕ) → place < length index → (k : ℕ) × (k < length index) × (slice_index index k ≡ place)
 
--- The names of an index before a place are smaller than a name.
+-- All names of an index before a place are smaller than this name.
 abbrev pub ArePassed : List (List ℕ) → List ℕ → ℕ → List ℕ → Type 0
 ArePassed names index place name = (k : ℕ) → k < place → name_order (name_at names index k) name ≡ Less
 
--- where a name stands in an index, or between which names it would stand
+-- the place of a name in an index, or the place between two names at which it belongs
 abbrev pub IsSearched : List (List ℕ) → List ℕ → List ℕ → Result ℕ ℕ → Type 0
 IsSearched names index name (Ok place) =
     (place < length index) × (name_order (name_at names index place) name ≡ Equal)
@@ -37,24 +37,24 @@ IsSearched names index name (Err place) =
 abbrev pub AreDistinct : List SlotState → Type 0
 AreDistinct slots = AllPairs (λ (a : SlotState) (b : SlotState). a.name ≢ b.name) slots
 
--- A slot stands before another by its number.
+-- A slot comes before another if its number is smaller.
 abbrev pub IsBefore : SlotState → SlotState → Type 0
 IsBefore a b = a.number < b.number
 
--- The slot's number and its lives were given before this number.
+-- The slot's number and the numbers of its lives were given before this number.
 pub record IsNumbered (next : ℕ) (slot : SlotState) : Type 0 where
   pub number : slot.number < next
   pub main : slot.main.number < next
   pub log : IfSome slot.log (λ (life : Life). life.number < next)
 
--- what holds of every table and its index
+-- the conditions on every table and its index
 pub record IsTable (slots : List SlotState) (next : ℕ) (index : List ℕ) : Type 0 where
   pub rising : AllPairs IsBefore slots
   pub numbered : All (IsNumbered next) slots
   pub indexed : IsIndex (names_of slots) index
   pub whole : length index ≡ length slots
 
--- At this place stands the slot of this number.
+-- The slot with this number is at this place.
 pub record IsPlaceOf (slots : List SlotState) (number : ℕ) (place : ℕ) : Type 0 where
   pub within : place < length slots
   pub here : (d : SlotState) → (slice_index_or slots place d).number ≡ number

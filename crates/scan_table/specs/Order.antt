@@ -1,5 +1,5 @@
--- Why a table refuses a scan, want of memory aside, as a function: the first place where the names do not rise, and
--- then whether there are numbers enough. And the row of a name.
+-- Why a table refuses a scan, apart from a lack of memory, as a function: the first place at which the names do not
+-- rise, and then whether there are enough numbers. Also the row with a name.
 use Rattle.std.specs.Prelude.{◌≡◌, ◌≢◌, ℕ, ◌+◌, ◌<◌, if◌then◌else◌, List, [], ◌∷◌, length, Option, Some, None, Result}
 use Rattle.std.specs.Prelude.{Ok, Err, slice_index_or}
 use Rattle.std.specs.List.{All}
@@ -11,13 +11,13 @@ use Rattle.scan_table.specs.Slots.{Row, name_order, is_name}
 use Rattle.scan_table.specs.Scan.{is_exhausted}
 use Rattle.scan_table.specs.Table.{TableState}
 
--- the fault of a name at a place, by how the name before it stands to it, or the fault of the names after it
+-- the fault of a name at a place, by how the name before it compares with it; if they rise, the fault of later names
 abbrev pub fault_at : ℕ → Ordering → Option ScanFault → Option ScanFault
 fault_at place Less later = later
 fault_at place Equal later = Some (fault.Twice place)
 fault_at place Greater later = Some (fault.Unsorted place)
 
--- the first fault of the rows from a place on, which come after this name
+-- the first fault of the rows from a place on, after this name
 abbrev pub order_fault_after : ℕ → List ℕ → List Row → Option ScanFault
 order_fault_after place name [] = None
 order_fault_after place name (row ∷ rows) =
@@ -34,17 +34,17 @@ numbers_fault table rows None = if is_exhausted table.slots table.next rows then
 abbrev pub scan_refusal : TableState → List Row → Option ScanFault
 scan_refusal table rows = numbers_fault table rows (order_fault rows)
 
--- what a result says of a fault
+-- the fault in a result
 abbrev pub fault_of : {T : Type 0} → Result T ScanFault → Option ScanFault
 fault_of (Ok value) = None
 fault_of (Err why) = Some why
 
--- the first of these rows that has the name
+-- the first of these rows with the name
 abbrev pub row_of : List Row → List ℕ → Option Row
 row_of [] name = None
 row_of (row ∷ rows) name = if is_name row.name name then Some row else row_of rows name
 
--- At this place stands a row of this name.
+-- A row with this name is at this place.
 pub record IsRowAt (rows : List Row) (name : List ℕ) (place : ℕ) : Type 0 where
   pub within : place < length rows
   pub here : (d : Row) → name_order (slice_index_or rows place d).name name ≡ Equal

@@ -1,6 +1,6 @@
--- What a scan starts, restarts, drops and refuses, as svscan does (cr.yp.to/daemontools/svscan.html): each directory
--- without a service gets one, up to 1000; a part that has ended starts again while its directory is there; a service
--- goes when its directory is gone and its parts have ended. Slots and lives are numbered from one counter.
+-- What a scan starts, restarts, drops and refuses, as svscan does (cr.yp.to/daemontools/svscan.html). Each directory
+-- without a service gets one, up to 1000. A part that has ended restarts if its directory is there. A service goes when
+-- its directory is gone and its parts have ended. Slots and lives are numbered from one counter.
 use Rattle.std.specs.Prelude.{◌≡◌, ℕ, ◌+◌, ◌-◌, ◌^◌, ◌<◌, ◌&&◌, Bool, true, false, not, List, [], ◌∷◌, ◌++◌, map}
 use Rattle.std.specs.Prelude.{length, drop, nat_lt, if◌then◌else◌, Option, Some, None, is_none, slice_index_or}
 use Rattle.std.specs.List.{filter, list_any, sum_by, flat_map, AllAdjacentBelow}
@@ -20,14 +20,14 @@ IsBelow a b = name_order a.name b.name ≡ Less
 abbrev pub AreRising : List Row → Type 0
 AreRising rows = AllAdjacentBelow IsBelow rows (length rows)
 
--- The rows before a place rise, and the name before it stands so to the name there.
+-- The rows before a place rise, and the name before it compares in this way with the name there.
 pub record IsFirstAt (rows : List Row) (place : ℕ) (order : Ordering) : Type 0 where
   pub after : 0 < place
   pub within : place < length rows
   pub before : AllAdjacentBelow IsBelow rows place
   pub here : (d : Row) → name_order (slice_index_or rows (place - 1) d).name (slice_index_or rows place d).name ≡ order
 
--- A fault of order is the first one from the front.
+-- A fault of the order is the first one from the beginning.
 abbrev pub IsOrderFault : List Row → ScanFault → Type 0
 IsOrderFault rows (fault.Unsorted place) = IsFirstAt rows place Greater
 IsOrderFault rows (fault.Twice place) = IsFirstAt rows place Equal
@@ -38,7 +38,7 @@ IsOrderFault rows fault.OutOfMemory = ⊥
 abbrev pub has_row : List Row → SlotState → Bool
 has_row rows slot = list_any (λ (row : Row). is_name row.name slot.name) (eligible rows)
 
--- The drops are the slots without an eligible row whose parts have all ended.
+-- The dropped slots are those without an eligible row that have only ended parts.
 abbrev pub is_dropped : List Row → SlotState → Bool
 is_dropped rows slot = not (has_row rows slot) && all_ended slot
 
@@ -49,7 +49,7 @@ drops slots rows = map (λ (slot : SlotState). slot.number) (filter (is_dropped 
 abbrev pub kept : List SlotState → List Row → List SlotState
 kept slots rows = filter (λ slot. not (is_dropped rows slot)) slots
 
--- the slot of a row's name
+-- the slot with a row's name
 abbrev pub slot_of : List SlotState → Row → Option SlotState
 slot_of [] row = None
 slot_of (slot ∷ slots) row = if is_name row.name slot.name then Some slot else slot_of slots row
@@ -65,7 +65,7 @@ new_rows slots rows = filter (is_new slots) (eligible rows)
 abbrev pub room : List SlotState → List Row → ℕ
 room slots rows = 1000 - length (kept slots rows)
 
--- The first of the new names get slots, and the rest are refused.
+-- The first of the new names get slots, and the others are refused.
 abbrev pub refused_rows : List SlotState → List Row → List Row
 refused_rows slots rows = drop (room slots rows) (new_rows slots rows)
 
@@ -75,7 +75,7 @@ refused slots rows = map (λ (row : Row). row.name) (refused_rows slots rows)
 abbrev pub is_refused : List SlotState → List Row → Row → Bool
 is_refused slots rows row = list_any (λ other. is_name row.name other.name) (refused_rows slots rows)
 
--- how many numbers a row needs: one for each ended part of its slot, or one for a new slot and one for each of its
+-- how many numbers a row needs: one for each ended part of its slot; or one for a new slot, and one for each of its
 -- parts
 abbrev pub need_where : Bool → Row → Option SlotState → ℕ
 need_where is_refused row (Some slot) = length (ended_roles slot)
@@ -87,7 +87,7 @@ need slots rows row = need_where (is_refused slots rows row) row (slot_of slots 
 abbrev pub needs : List SlotState → List Row → ℕ
 needs slots rows = sum_by (need slots rows) (eligible rows)
 
--- There are more needs than numbers.
+-- More numbers are needed than are left.
 abbrev pub is_exhausted : List SlotState → ℕ → List Row → Bool
 is_exhausted slots next rows = nat_lt (2 ^ 64 - 1 - next) (needs slots rows)
 
@@ -96,7 +96,7 @@ abbrev pub lives_from : ℕ → ℕ → List Role → List PartId
 lives_from n slot [] = []
 lives_from n slot (role ∷ roles) = record { slot = slot; role = role; life = n } ∷ lives_from (n + 1) slot roles
 
--- what a row whose first number is n is given: lives of the parts that restart
+-- what a row with n as its first number gets: new lives of the parts that restart
 abbrev pub restarts_where : ℕ → Option SlotState → List PartId
 restarts_where n None = []
 restarts_where n (Some slot) = lives_from n slot.number (ended_roles slot)
@@ -104,7 +104,7 @@ restarts_where n (Some slot) = lives_from n slot.number (ended_roles slot)
 abbrev pub restarts_at : List SlotState → List Row → ℕ → Row → List PartId
 restarts_at slots rows n row = restarts_where n (slot_of slots row)
 
--- a new slot whose number is n: its parts run in the lives after it
+-- a new slot with the number n: its parts run in the lives with the next numbers
 abbrev pub new_slot : ℕ → Row → SlotState
 new_slot n row =
     record {
@@ -119,14 +119,14 @@ abbrev pub new_slots_where : Bool → ℕ → Row → Option SlotState → List 
 new_slots_where is_refused n row (Some slot) = []
 new_slots_where is_refused n row None = if is_refused then [] else new_slot n row ∷ []
 
--- the same, of a new name
+-- the same for a new name
 abbrev pub new_slot_where : Bool → ℕ → Row → List SlotState
 new_slot_where is_refused n row = new_slots_where is_refused n row None
 
 abbrev pub new_slots_at : List SlotState → List Row → ℕ → Row → List SlotState
 new_slots_at slots rows n row = new_slots_where (is_refused slots rows row) n row (slot_of slots row)
 
--- each row's gift, where each has its numbers after those of the rows before it
+-- what each row gets, if the numbers of each row come after those of the rows before it
 abbrev pub in_turn : {T : Type 0} → (Row → ℕ) → (ℕ → Row → List T) → ℕ → List Row → List T
 in_turn need gift n [] = []
 in_turn need gift n (row ∷ rest) = gift n row ++ in_turn need gift (n + need row) rest
@@ -141,7 +141,8 @@ starts slots next rows = flat_map ids_of (new_slots slots next rows)
 abbrev pub restarts : List SlotState → ℕ → List Row → List PartId
 restarts slots next rows = in_turn (need slots rows) (restarts_at slots rows) next (eligible rows)
 
--- Why a scan is refused: the order of the rows first, then the numbers, and memory only where nothing else is wrong.
+-- Why a scan is refused. The order of the rows comes first, then the numbers. Memory is the reason only if nothing else
+-- is wrong.
 abbrev pub IsCause : List SlotState → ℕ → List Row → ScanFault → Type 0
 IsCause slots next rows (fault.Unsorted place) = IsFirstAt rows place Greater
 IsCause slots next rows (fault.Twice place) = IsFirstAt rows place Equal

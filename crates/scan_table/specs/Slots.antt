@@ -1,5 +1,5 @@
--- What a scan finds, and the slots that it keeps services in, as svscan has them (cr.yp.to/daemontools/svscan.html).
--- A name is its bytes.
+-- What a scan finds, and the slots in which it keeps services, as in svscan (cr.yp.to/daemontools/svscan.html). A name
+-- is its bytes.
 use Rattle.std.specs.Prelude.{ℕ, ◌==◌, ◌&&◌, Bool, true, false, not, List, [], ◌∷◌, map, length, nat_le}
 use Rattle.std.specs.Prelude.{if◌then◌else◌, Option, Some, None}
 use Rattle.std.specs.List.{filter, list_all}
@@ -33,14 +33,14 @@ abbrev pub is_service_name : List ℕ → Bool
 is_service_name [] = false
 is_service_name (byte ∷ bytes) = not (byte == 46)
 
--- A row is eligible where it is a directory with a service's name.
+-- A row is eligible if it is a directory with a service's name.
 abbrev pub is_eligible : Row → Bool
 is_eligible row = row.is_dir && is_service_name row.name
 
 abbrev pub eligible : List Row → List Row
 eligible rows = filter is_eligible rows
 
--- A service is a pair, s and s/log, where it has a log and a name of at most 255 bytes.
+-- A service is a pair, s and s/log, if it has a log and a name of at most 255 bytes.
 abbrev pub is_pair : Row → Bool
 is_pair row = row.has_log && nat_le (length row.name) 255
 
@@ -52,7 +52,7 @@ abbrev pub is_main : Role → Bool
 is_main Main = true
 is_main Log = false
 
--- a slot: the present life of its main part, and of its log where it is a pair
+-- a slot: the current life of its main part, and of its log if it is a pair
 pub record SlotState : Type 0 where
   pub number : ℕ
   pub name : List ℕ
@@ -72,7 +72,7 @@ log_parts (Some life) = record { role = Log; life = life } ∷ []
 abbrev pub parts_of : SlotState → List SlotPart
 parts_of slot = record { role = Main; life = slot.main } ∷ log_parts slot.log
 
--- the parts of a slot by slot, role and life
+-- the parts of a slot, by slot, role and life
 abbrev pub ids_of : SlotState → List PartId
 ids_of slot =
     map (λ (part : SlotPart). record { slot = slot.number; role = part.role; life = part.life.number }) (parts_of slot)

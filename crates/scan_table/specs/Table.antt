@@ -1,4 +1,4 @@
--- A table of slots, and what scans and ends do to it.
+-- A table of slots, and what scans and ended parts do to it.
 use Rattle.std.specs.Prelude.{ℕ, ◌+◌, ◌<◌, ◌≤◌, ◌==◌, ◌&&◌, ◌||◌, Bool, false, not, List, [], ◌∷◌, ◌++◌, map}
 use Rattle.std.specs.Prelude.{if◌then◌else◌, Option, Some, None, is_some}
 use Rattle.std.specs.List.{list_any, All}
@@ -10,7 +10,7 @@ use Rattle.scan_table.specs.declared.slot.Life.{Life}
 use Rattle.scan_table.specs.Slots.{Row, is_main, SlotState, SlotPart, parts_of}
 use Rattle.scan_table.specs.Scan.{kept, needs, restarts, new_slots}
 
--- the slots, and the counter: the number that is given next
+-- the slots, and the counter, which is the number that is given next
 pub record TableState : Type 0 where
   pub slots : List SlotState
   pub next : ℕ
@@ -19,12 +19,12 @@ pub record TableState : Type 0 where
 abbrev pub new_table : ℕ → TableState
 new_table next = record { slots = []; next = next }
 
--- whether a part is that of a slot's number and a role
+-- whether a part has this slot number and this role
 abbrev pub is_at : PartId → ℕ → Role → Bool
 is_at part number Main = is_main part.role && part.slot == number
 is_at part number Log = not (is_main part.role) && part.slot == number
 
--- a part's life after these parts restarted: the new one, where it is among them
+-- a part's life after these parts restarted: the new one, if the part is among them
 abbrev pub restarted : List PartId → ℕ → Role → Life → Life
 restarted [] number role life = life
 restarted (part ∷ parts) number role life =
@@ -41,7 +41,7 @@ renewed parts slot =
       log = option_map (restarted parts slot.number Log) slot.log;
     }
 
--- A scan keeps slots in their places, each part that restarts in its new life, and puts the new slots at the end.
+-- A scan keeps slots in their places, gives each part that restarts its new life, and adds the new slots at the end.
 abbrev pub scanned : TableState → List Row → TableState
 scanned table rows =
     record {
@@ -50,7 +50,7 @@ scanned table rows =
       next = table.next + needs table.slots rows;
     }
 
--- whether a part is a life of a slot's part
+-- whether a part is this life of a slot's part
 abbrev pub is_life : PartId → Role → Life → Bool
 is_life part Main life = is_main part.role && part.life == life.number
 is_life part Log life = not (is_main part.role) && part.life == life.number
@@ -85,12 +85,12 @@ has_running part slot =
 abbrev pub is_running : TableState → PartId → Bool
 is_running table part = list_any (has_running part) table.slots
 
--- the slot of a number
+-- the slot with a number
 abbrev pub slot_at : List SlotState → ℕ → Option SlotState
 slot_at [] number = None
 slot_at (slot ∷ slots) number = if slot.number == number then Some slot else slot_at slots number
 
--- whether there is a slot, and it is a pair's
+-- whether there is a slot, and it is that of a pair
 abbrev pub has_log : Option SlotState → Bool
 has_log None = false
 has_log (Some slot) = is_some slot.log
@@ -102,6 +102,6 @@ name_of slot = slot.name
 abbrev pub between : ℕ → ℕ → PartId → Type 0
 between from to part = (from ≤ part.life) × (part.life < to)
 
--- These lives were given between two counters: no scan before or after gives them.
+-- These lives were given between two values of the counter: no scan before or after gives them.
 abbrev pub AreFresh : ℕ → ℕ → List PartId → Type 0
 AreFresh from to parts = All (between from to) parts

@@ -1,4 +1,4 @@
--- What a row is worth where it is known whether a new name is refused there.
+-- How many numbers a row needs, if it is known whether a new name is refused there.
 use Rattle.std.specs.Prelude.{ℕ, ◌&&◌, Bool, List, [], ◌∷◌, if◌then◌else◌}
 use Rattle.scan_table.specs.declared.part.PartId.{PartId}
 use Rattle.scan_table.specs.Slots.{Row, is_eligible, SlotState}
@@ -18,6 +18,6 @@ row_slots slots is_refused n row = if is_eligible row then new_slots_where is_re
 abbrev pub turn_restarts : List SlotState → ℕ → Row → List PartId
 turn_restarts slots n row = if is_eligible row then restarts_where n (slot_of slots row) else []
 
--- a row's name, where it is refused
+-- a row's name, if it is refused
 abbrev pub turn_refused : List SlotState → Bool → Row → List (List ℕ)
 turn_refused slots is_refused row = if is_counted slots row && is_refused then row.name ∷ [] else []

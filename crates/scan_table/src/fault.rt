@@ -4,23 +4,23 @@ use std::alloc::AllocError;
 use std::error::Error;
 use std::fmt;
 
-/// Why a scan was refused. Places count the rows from 0.
+/// Why a scan was refused. The places of rows are counted from 0.
 #[derive(Clone, Copy, Debug, PartialEq, Eq)]
 pub enum ScanFault {
-    /// The first name that is smaller than the one before.
+    /// This name is the first one that is smaller than the name before it.
     Unsorted(u64),
 
-    /// The first name that is the one before.
+    /// This name is the first one that equals the name before it.
     Twice(u64),
 
     /// The scan needs more numbers than the counter has left.
     Exhausted,
 
-    /// The allocator refused the memory for what the scan makes.
+    /// The allocator refused memory for what the scan makes.
     OutOfMemory,
 }
 
-/// It is shown by its name, without the place.
+/// Shows the name of the fault, without the place.
 impl fmt::Display for ScanFault {
     ghost use Rattle.std.specs.Prelude.{Some};
     ghost use Rattle.scan_table.specs.Named.{scan_fault_name};

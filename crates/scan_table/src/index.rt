@@ -9,7 +9,7 @@ use crate::slot::Slot;
 use std::alloc::Allocator;
 use std::cmp::Ordering;
 
-/// Where a name stands in an index of the first slots, or where it would stand.
+/// Returns the place of a name in an index of the first slots, or the place at which it belongs.
 fn search<A: Allocator>(slots: &[Slot<A>], index: &[usize], name: &str) -> Result<usize, usize>
     requires index { IsIndex (names_of slots.now) index.now }
     requires bound { length index.now ≤ length slots.now }
@@ -28,7 +28,8 @@ fn search<A: Allocator>(slots: &[Slot<A>], index: &[usize], name: &str) -> Resul
     Err(low)
 }
 
-/// Where a name stands in an index, or where it would stand, sought from a place on whose earlier names are smaller.
+/// Returns the place of a name in an index, or the place at which it belongs. The search begins at a place; all names
+/// before it are smaller.
 fn seek<A: Allocator>(
     slots: &[Slot<A>],
     index: &[usize],
@@ -51,8 +52,8 @@ fn seek<A: Allocator>(
     Err(index.len())
 }
 
-/// The slot of a row's name, by an index of all slots. Rows are asked for by rising name: the names of the index before
-/// `at` are smaller than the row's, and so they are afterwards.
+/// Returns the slot with a row's name, by an index of all slots. Rows are looked up by rising name: the names of the
+/// index before `at` are smaller than the row's, and stay smaller for later rows.
 pub(crate) fn slot_of<'a, A: Allocator>(
     slots: &'a [Slot<A>],
     index: &[usize],
@@ -79,7 +80,7 @@ pub(crate) fn slot_of<'a, A: Allocator>(
     }
 }
 
-/// The slot of a name, by an index of all slots.
+/// Returns the slot with a name, by an index of all slots.
 pub(crate) fn slot_named<'a, A: Allocator>(
     slots: &'a [Slot<A>],
     index: &[usize],
@@ -95,7 +96,7 @@ pub(crate) fn slot_named<'a, A: Allocator>(
     }
 }
 
-/// Takes the next slot into an index of the slots before it, which has room for it.
+/// Adds the next slot to an index of the slots before it, which has room for it.
 fn put<A: Allocator>(slots: &[Slot<A>], index: &mut Vec<usize, A>)
     requires index { IsIndex (names_of slots.now) index.old.items }
     requires bound { vec_len index.old < length slots.now }
@@ -112,7 +113,7 @@ fn put<A: Allocator>(slots: &[Slot<A>], index: &mut Vec<usize, A>)
     let _ = index.insert(at, place);
 }
 
-/// Makes an index of all slots in a list that has room for it.
+/// Makes an index of all slots, in a list that has room for it.
 pub(crate) fn index_all<A: Allocator>(slots: &[Slot<A>], index: &mut Vec<usize, A>)
     requires room { length slots.now ≤ vec_capacity index.old }
     requires distinct { AreDistinct slots.now }

@@ -1,6 +1,6 @@
 //! The table of services that a scan keeps, as svscan does (<https://cr.yp.to/daemontools/svscan.html>).
 //!
-//! [`ScanTable::scan`] is given what the folder holds, and answers which services start, restart, go or are refused.
+//! [`ScanTable::scan`] takes what the folder contains, and returns which services start, restart, go or are refused.
 //! [`ScanTable::ended`] is called for each part that has ended.
 #![tactic(auto)]
 

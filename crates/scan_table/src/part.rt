@@ -4,7 +4,7 @@ ghost use Rattle.std.specs.Prelude.{◌≡◌, ◌↔◌, IsTrue, [], length};
 use std::alloc::{Allocator, Global};
 use std::marker::Model;
 
-/// Which of a slot's two services: the service itself, or its logger.
+/// Which of a slot's two services this is: the service itself, or its logger.
 #[derive(Clone, Copy, Debug, PartialEq, Eq)]
 pub enum Role {
     Main,
@@ -35,7 +35,7 @@ impl<A: Allocator> Model for Parts<A> {
 }
 
 impl<A: Allocator> Parts<A> {
-    /// The list of these parts.
+    /// Returns the list of these parts.
     pub fn from_vec(parts: Vec<PartId, A>) -> Parts<A>
         ensures { result ≡ parts.items }
     {
@@ -50,21 +50,21 @@ impl<A: Allocator> Parts<A> {
         parts
     }
 
-    /// The parts, in order.
+    /// Returns the parts, in order.
     pub fn as_slice(&self) -> &[PartId]
         ensures { result.now ≡ self.now }
     {
         self.parts.as_slice()
     }
 
-    /// How many parts there are.
+    /// Returns how many parts there are.
     pub fn len(&self) -> usize
         ensures { result ≡ length self.now }
     {
         self.parts.len()
     }
 
-    /// Whether there is no part.
+    /// Returns whether there is no part.
     pub fn is_empty(&self) -> bool
         ensures { IsTrue result ↔ (self.now ≡ []) }
     {
@@ -87,7 +87,7 @@ impl<A: Allocator> Model for Numbers<A> {
 }
 
 impl<A: Allocator> Numbers<A> {
-    /// The list of these numbers.
+    /// Returns the list of these numbers.
     pub fn from_vec(numbers: Vec<u64, A>) -> Numbers<A>
         ensures { result ≡ numbers.items }
     {
@@ -102,21 +102,21 @@ impl<A: Allocator> Numbers<A> {
         numbers
     }
 
-    /// The numbers, in order.
+    /// Returns the numbers, in order.
     pub fn as_slice(&self) -> &[u64]
         ensures { result.now ≡ self.now }
     {
         self.numbers.as_slice()
     }
 
-    /// How many numbers there are.
+    /// Returns how many numbers there are.
     pub fn len(&self) -> usize
         ensures { result ≡ length self.now }
     {
         self.numbers.len()
     }
 
-    /// Whether there is no number.
+    /// Returns whether there is no number.
     pub fn is_empty(&self) -> bool
         ensures { IsTrue result ↔ (self.now ≡ []) }
     {

@@ -1,4 +1,4 @@
-//! What is done to the slot of a number.
+//! What is done to the slot with a number.
 ghost use Rattle.std.specs.Prelude.{◌≡◌, ◌≢◌, ◌<◌, ℕ, length, map, slice_index_or, MatchOption, ◌∷◌, [], option_copied};
 ghost use Rattle.std.specs.List.{AllPairs, All, list_any};
 ghost use Rattle.scan_table.specs.Table.{slot_ended, has_running, renewed, slot_at};
@@ -8,7 +8,7 @@ use crate::part::PartId;
 use crate::slot::Slot;
 use std::alloc::Allocator;
 
-/// The place of the slot of a number.
+/// Returns the place of the slot with a number.
 fn place_of<A: Allocator>(slots: &[Slot<A>], number: u64) -> Option<usize>
     requires { AllPairs IsBefore slots.now }
     ensures { MatchOption result (HasNot slots.now number) (λ place. IsPlaceOf slots.now number place) }
@@ -30,7 +30,7 @@ fn place_of<A: Allocator>(slots: &[Slot<A>], number: u64) -> Option<usize>
     None
 }
 
-/// The slot of a number.
+/// Returns the slot with a number.
 pub(crate) fn slot_at<A: Allocator>(slots: &[Slot<A>], number: u64) -> Option<&Slot<A>>
     requires { AllPairs IsBefore slots.now }
     ensures { option_copied result ≡ slot_at slots.now number }
@@ -41,7 +41,7 @@ pub(crate) fn slot_at<A: Allocator>(slots: &[Slot<A>], number: u64) -> Option<&S
     }
 }
 
-/// Ends a part: whether it was there and had not ended.
+/// Notes that a part has ended. Returns whether it was there and had not ended.
 pub(crate) fn end_part<A: Allocator>(slots: &mut [Slot<A>], part: PartId) -> bool
     requires { AllPairs IsBefore slots.old }
     ensures slots { slots.new ≡ map (slot_ended part) slots.old }

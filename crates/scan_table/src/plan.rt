@@ -19,7 +19,7 @@ use crate::slot::{Life, MAX_SLOTS, Slot, copy_name};
 use std::alloc::{AllocError, Allocator, Global};
 use tai_status::Name;
 
-/// Whether a slot has an eligible row.
+/// Returns whether a slot has an eligible row.
 fn has_row<A: Allocator>(rows: &[DirRow<A>], slot: &Slot<A>) -> bool
     requires { AreRising rows.now }
     ensures { result ≡ has_row rows.now slot.now }
@@ -30,7 +30,7 @@ fn has_row<A: Allocator>(rows: &[DirRow<A>], slot: &Slot<A>) -> bool
     }
 }
 
-/// Whether a scan of these rows drops a slot.
+/// Returns whether a scan of these rows drops a slot.
 fn is_dropped<A: Allocator>(rows: &[DirRow<A>], slot: &Slot<A>) -> bool
     requires { AreRising rows.now }
     ensures { result ≡ is_dropped rows.now slot.now }
@@ -38,7 +38,7 @@ fn is_dropped<A: Allocator>(rows: &[DirRow<A>], slot: &Slot<A>) -> bool
     slot.all_ended() && !has_row(rows, slot)
 }
 
-/// The numbers of the slots that a scan of these rows drops.
+/// Returns the numbers of the slots that a scan of these rows drops.
 fn drops<A: Allocator>(
     alloc: A,
     slots: &[Slot<A>],
@@ -56,7 +56,7 @@ fn drops<A: Allocator>(
     Ok(numbers)
 }
 
-/// How many slots a scan of these rows keeps.
+/// Returns how many slots a scan of these rows keeps.
 fn kept_count<A: Allocator>(slots: &[Slot<A>], rows: &[DirRow<A>]) -> usize
     requires { AreRising rows.now }
     ensures { result ≡ length (kept slots.now rows.now) }
@@ -84,7 +84,7 @@ pub(crate) fn keep<A: Allocator>(slots: &mut Vec<Slot<A>, A>, rows: &[DirRow<A>]
     );
 }
 
-/// How many numbers a row needs.
+/// Returns how many numbers a row needs.
 fn need<A: Allocator>(slot: Option<&Slot<A>>, row: &DirRow<A>, is_refused: bool) -> u64
     ensures need { result ≡ need_where is_refused row.now (option_copied slot.entry) }
     ensures bound { result ≤ 3 }
@@ -97,7 +97,7 @@ fn need<A: Allocator>(slot: Option<&Slot<A>>, row: &DirRow<A>, is_refused: bool)
     }
 }
 
-/// How many numbers a row needs, and whether it has a new name.
+/// Returns how many numbers a row needs, and whether it has a new name.
 fn turn<A: Allocator>(
     slots: &[Slot<A>],
     index: &[usize],
@@ -122,7 +122,7 @@ fn turn<A: Allocator>(
     (need(slot, row, is_refused), slot.is_none())
 }
 
-/// One for a new name.
+/// Returns one for a new name, and zero otherwise.
 fn count(is_new: bool) -> usize
     ensures count { result ≡ (if is_new then 1 else 0) }
     ensures bound { result ≤ 1 }
@@ -130,7 +130,7 @@ fn count(is_new: bool) -> usize
     if is_new { 1 } else { 0 }
 }
 
-/// Whether a scan needs more numbers than there are.
+/// Returns whether a scan needs more numbers than are left.
 fn is_exhausted<A: Allocator>(
     slots: &[Slot<A>],
     index: &[usize],
@@ -170,7 +170,7 @@ pub(crate) struct Assignments<A: Allocator = Global> {
     made: usize,
 }
 
-/// Puts the restarts of a slot's parts at the end, in lives from this one on.
+/// Adds the restarts of a slot's parts at the end, in lives from this one on.
 fn push_restarts<A: Allocator>(
     list: &mut Vec<PartId, A>,
     slot: &Slot<A>,
@@ -201,7 +201,7 @@ fn push_restarts<A: Allocator>(
     Ok(())
 }
 
-/// A new slot of a row. Its parts run in the lives after its number.
+/// Makes a new slot for a row. Its parts run in the lives after its number.
 fn new_slot<A: Allocator>(alloc: A, row: &DirRow<A>, number: u64) -> Result<Slot<A>, AllocError>
     requires { number + 1 + length (roles_of row.now) ≤ 2 ^ 64 }
     ensures { IfOk result (λ slot. slot ≡ new_slot number row.now) }
@@ -228,7 +228,7 @@ fn new_slot<A: Allocator>(alloc: A, row: &DirRow<A>, number: u64) -> Result<Slot
 }
 
 impl<A: Allocator + Clone> Assignments<A> {
-    /// Assigns a row with a slot its restarts.
+    /// Assigns its restarts to a row that has a slot.
     fn assign_restarts(&mut self, slot: &Slot<A>) -> Result<(), AllocError>
         requires { self.old.number + length (ended_roles slot.now) < 2 ^ 64 }
         ensures restarts { OnOk result (self.new.restarts.items
@@ -243,7 +243,7 @@ impl<A: Allocator + Clone> Assignments<A> {
         Ok(())
     }
 
-    /// Assigns a row with a new name its slot.
+    /// Assigns a slot to a row with a new name.
     fn assign_slot(&mut self, alloc: &A, row: &DirRow<A>) -> Result<(), AllocError>
         requires fits { self.old.number + 1 + length (roles_of row.now) < 2 ^ 64 }
         ensures slots { OnOk result (self.new.slots.items
@@ -259,7 +259,7 @@ impl<A: Allocator + Clone> Assignments<A> {
         Ok(())
     }
 
-    /// Assigns a row with a new name its slot where there is room, and refuses the name elsewhere.
+    /// Assigns a slot to a row with a new name if there is room, and refuses the name if not.
     fn assign_new(&mut self, alloc: &A, row: &DirRow<A>, room: usize) -> Result<(), AllocError>
         requires fits { self.old.number + need_where (nat_le room self.old.made) row.now None < 2 ^ 64 }
         requires made { self.old.made + 1 < 2 ^ 64 }
@@ -281,7 +281,7 @@ impl<A: Allocator + Clone> Assignments<A> {
         Ok(())
     }
 
-    /// Assigns a row what it needs.
+    /// Assigns to a row what it needs.
     fn assign(
         &mut self,
         alloc: &A,
@@ -319,7 +319,7 @@ impl<A: Allocator + Clone> Assignments<A> {
     }
 }
 
-/// Assigns each row what it needs, in order.
+/// Assigns to each row what it needs, in order.
 fn assign_all<A: Allocator + Clone>(
     alloc: &A,
     slots: &[Slot<A>],
@@ -352,7 +352,7 @@ fn assign_all<A: Allocator + Clone>(
     Ok(assigned)
 }
 
-/// What a scan does, with all that it needs of memory but for the slots' own room.
+/// What a scan does, with all the memory that it needs except the room of the slots themselves.
 #[derive(Drop)]
 pub(crate) struct Plan<A: Allocator = Global> {
     pub(crate) starts: Vec<PartId, A>,
@@ -360,7 +360,7 @@ pub(crate) struct Plan<A: Allocator = Global> {
     pub(crate) assigned: Assignments<A>,
 }
 
-/// Puts the parts of a slot at the end.
+/// Adds the parts of a slot at the end.
 fn push_parts<A: Allocator>(list: &mut Vec<PartId, A>, slot: &Slot<A>) -> Result<(), AllocError>
     ensures { OnOk result (list.new.items ≡ list.old.items ++ ids_of slot.now) }
 {
@@ -379,7 +379,7 @@ fn push_parts<A: Allocator>(list: &mut Vec<PartId, A>, slot: &Slot<A>) -> Result
     Ok(())
 }
 
-/// The parts of slots.
+/// Returns the parts of slots.
 fn parts_of<A: Allocator>(alloc: A, slots: &[Slot<A>]) -> Result<Vec<PartId, A>, AllocError>
     ensures { IfOk result (λ parts. parts.items ≡ flat_map ids_of slots.now) }
 {
@@ -390,7 +390,7 @@ fn parts_of<A: Allocator>(alloc: A, slots: &[Slot<A>]) -> Result<Vec<PartId, A>,
     Ok(parts)
 }
 
-/// What there is to do, once the numbers are known to be enough.
+/// Plans what there is to do, after it is known that there are enough numbers.
 fn gather<A: Allocator + Clone>(
     alloc: &A,
     slots: &[Slot<A>],
@@ -421,7 +421,7 @@ fn gather<A: Allocator + Clone>(
     })
 }
 
-/// How many more slots there may be after a scan of these rows.
+/// Returns how many more slots there may be after a scan of these rows.
 fn room<A: Allocator>(slots: &[Slot<A>], rows: &[DirRow<A>]) -> usize
     requires { AreRising rows.now }
     ensures { result ≡ Rattle.scan_table.specs.Scan.room slots.now rows.now }
@@ -429,7 +429,7 @@ fn room<A: Allocator>(slots: &[Slot<A>], rows: &[DirRow<A>]) -> usize
     MAX_SLOTS.saturating_sub(kept_count(slots, rows))
 }
 
-/// Whether a scan would be refused, want of memory aside.
+/// Returns why a scan would be refused, apart from a lack of memory.
 pub(crate) fn check_scan<A: Allocator>(
     slots: &[Slot<A>],
     index: &[usize],
@@ -449,7 +449,7 @@ pub(crate) fn check_scan<A: Allocator>(
     Ok(())
 }
 
-/// What a scan does.
+/// Plans what a scan does.
 pub(crate) fn plan_scan<A: Allocator + Clone>(
     alloc: &A,
     slots: &[Slot<A>],

@@ -1,4 +1,4 @@
-//! What a scan is given.
+//! The entries that a scan is given.
 ghost use Rattle.std.specs.Prelude.{◌≡◌, OnOk, IfErr, MatchOption, option_copied};
 ghost use Rattle.scan_table.specs.Scan.{AreRising, IsFirstAt, IsOrderFault};
 ghost use Rattle.scan_table.specs.Order.{order_fault, fault_of, row_of, IsRowAt, HasNoRow};
@@ -12,13 +12,13 @@ use tai_status::Name;
 /// An entry of the folder that is scanned.
 #[derive(Drop)]
 pub struct DirRow<A: Allocator = Global> {
-    /// Its name in the folder.
+    /// The name in the folder.
     pub name: Name<A>,
-    /// Whether it is a directory.
+    /// Whether the entry is a directory.
     pub is_dir: bool,
-    /// Whether it has a directory `log`.
+    /// Whether the entry has a directory `log`.
     pub has_log: bool,
-    /// Whether it has a file `down`.
+    /// Whether the entry has a file `down`.
     pub down: bool,
     /// Whether its `log` has a file `down`.
     pub log_down: bool,
@@ -41,21 +41,22 @@ impl<A: Allocator> Model for DirRow<A> {
 impl<A: Allocator> DirRow<A> {
     ghost use Rattle.scan_table.specs.Slots.{is_eligible, is_pair};
 
-    /// The name of the entry.
+    /// Returns the name of the entry.
     pub(crate) fn name(&self) -> &str
         ensures { result.now ≡ self.now.name }
     {
         self.name.as_str()
     }
 
-    /// Whether the row is of a service: a directory whose name is not empty and does not begin with a dot.
+    /// Returns whether the row is that of a service: a directory with a name that is not empty and does not begin with
+    /// a dot.
     pub fn is_eligible(&self) -> bool
         ensures { result ≡ is_eligible self.now }
     {
         self.is_dir && !matches!(self.name().as_bytes(), [] | [b'.', ..])
     }
 
-    /// Whether a new slot of the row is a pair.
+    /// Returns whether a new slot of the row is a pair.
     pub fn is_pair(&self) -> bool
         ensures { result ≡ is_pair self.now }
     {
@@ -63,7 +64,7 @@ impl<A: Allocator> DirRow<A> {
     }
 }
 
-/// Gives the first place where the rows do not rise by name.
+/// Returns a fault for the first place at which the rows do not rise by name.
 pub(crate) fn check_order<A: Allocator>(rows: &[DirRow<A>]) -> Result<(), ScanFault>
     ensures ok { OnOk result (AreRising rows.now) }
     ensures err { IfErr result (λ fault. IsOrderFault rows.now fault) }
@@ -79,7 +80,7 @@ pub(crate) fn check_order<A: Allocator>(rows: &[DirRow<A>]) -> Result<(), ScanFa
     Ok(())
 }
 
-/// The place of the row of a name.
+/// Returns the place of the row with a name.
 pub(crate) fn place_of_row<A: Allocator>(rows: &[DirRow<A>], name: &str) -> Option<usize>
     requires { AreRising rows.now }
     ensures { MatchOption result (HasNoRow rows.now name.now) (λ place. IsRowAt rows.now name.now place) }
@@ -97,7 +98,7 @@ pub(crate) fn place_of_row<A: Allocator>(rows: &[DirRow<A>], name: &str) -> Opti
     None
 }
 
-/// The row of a name, among rows that rise by the byte order of their names.
+/// Returns the row with a name, among rows that rise by the byte order of their names.
 pub fn find_row<'a, A: Allocator>(rows: &'a [DirRow<A>], name: &str) -> Option<&'a DirRow<A>>
     requires { AreRising rows.now }
     ensures { option_copied result ≡ row_of rows.now name.now }

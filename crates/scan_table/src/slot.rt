@@ -1,4 +1,4 @@
-//! A slot, which keeps one service, and what stands in it.
+//! A slot, which keeps one service.
 ghost use Rattle.std.specs.Prelude.{◌≡◌, ◌≤◌, ◌∷◌, [], length, IfOk};
 
 use crate::part::{PartId, Role};
@@ -6,7 +6,7 @@ use std::alloc::{AllocError, Allocator, Global};
 use std::marker::Model;
 use tai_status::Name;
 
-/// The most slots that there are.
+/// The most slots of a table.
 pub const MAX_SLOTS: usize = 1000;
 
 /// A part's life, and whether it has ended.
@@ -16,7 +16,7 @@ pub(crate) struct Life {
     pub(crate) has_ended: bool,
 }
 
-/// A slot: its main part, and its log where it is a pair.
+/// A slot: its main part, and its log if it is a pair.
 #[derive(Drop)]
 pub(crate) struct Slot<A: Allocator = Global> {
     pub(crate) number: u64,
@@ -38,21 +38,21 @@ impl<A: Allocator> Slot<A> {
     ghost use Rattle.scan_table.specs.Table.{slot_ended, has_running, renewed};
     ghost use Rattle.scan_table.specs.Whole.{none_ended};
 
-    /// The slot's number.
+    /// Returns the slot's number.
     pub(crate) fn number(&self) -> u64
         ensures { result ≡ self.now.number }
     {
         self.number
     }
 
-    /// The name of its service.
+    /// Returns the name of its service.
     pub(crate) fn name(&self) -> &str
         ensures { result.now ≡ self.now.name }
     {
         self.name.as_str()
     }
 
-    /// Whether each part has ended.
+    /// Returns whether all parts have ended.
     pub(crate) fn all_ended(&self) -> bool
         ensures { result ≡ all_ended self.now }
     {
@@ -62,7 +62,7 @@ impl<A: Allocator> Slot<A> {
         }
     }
 
-    /// Whether no part has ended.
+    /// Returns whether no part has ended.
     pub(crate) fn none_ended(&self) -> bool
         ensures { result ≡ none_ended self.now }
     {
@@ -72,7 +72,7 @@ impl<A: Allocator> Slot<A> {
         }
     }
 
-    /// How many parts have ended.
+    /// Returns how many parts have ended.
     pub(crate) fn ended_count(&self) -> u64
         ensures count { result ≡ length (ended_roles self.now) }
         ensures bound { result ≤ 2 }
@@ -84,7 +84,7 @@ impl<A: Allocator> Slot<A> {
         }
     }
 
-    /// Begins a part in a new life, where it is one of this slot.
+    /// Begins a part in a new life, if it is a part of this slot.
     pub(crate) fn restart(&mut self, part: PartId)
         ensures { self.new ≡ renewed (part ∷ []) self.old }
     {
@@ -105,7 +105,7 @@ impl<A: Allocator> Slot<A> {
         }
     }
 
-    /// Ends a part: whether it was there and had not ended.
+    /// Notes that a part has ended. Returns whether it was there and had not ended.
     pub(crate) fn end(&mut self, part: PartId) -> bool
         ensures slot { self.new ≡ slot_ended part self.old }
         ensures running { result ≡ has_running part self.old }
@@ -138,14 +138,14 @@ impl<A: Allocator> Slot<A> {
     }
 }
 
-/// A copy of a name.
+/// Copies a name.
 pub(crate) fn copy_name<A: Allocator>(alloc: A, name: &str) -> Result<Name<A>, AllocError>
     ensures { IfOk result (λ copy. copy ≡ name.now) }
 {
     Ok(Name::new(String::from_str(alloc, name)?))
 }
 
-/// A copy of a slot.
+/// Copies a slot.
 fn copy_slot<A: Allocator>(alloc: A, slot: &Slot<A>) -> Result<Slot<A>, AllocError>
     ensures { IfOk result (λ copy. copy ≡ slot.now) }
 {
@@ -157,7 +157,7 @@ fn copy_slot<A: Allocator>(alloc: A, slot: &Slot<A>) -> Result<Slot<A>, AllocErr
     })
 }
 
-/// A copy of slots.
+/// Copies slots.
 pub(crate) fn copy_slots<A: Allocator + Clone>(
     alloc: &A,
     slots: &[Slot<A>],

@@ -27,20 +27,20 @@ use tai_status::{Name, Names};
 pub struct ScanOut<A: Allocator = Global> {
     /// The parts of the new slots, in the order of their rows, each service before its logger.
     pub starts: Parts<A>,
-    /// The parts that start again, in the order of their rows, each service before its logger.
+    /// The parts that restart, in the order of their rows, each service before its logger.
     pub restarts: Parts<A>,
-    /// The numbers of the slots that went, rising.
+    /// The numbers of the slots that were dropped, rising.
     pub drops: Numbers<A>,
-    /// The names that get no slot since there are too many, in the order of their rows.
+    /// The names that get no slot since there are too many services, in the order of their rows.
     pub refused: Names<A>,
 }
 
-/// The slots of all services, and the counter from which slots and lives are numbered. No number is given twice.
-/// Contracts see it as `TableState`.
+/// The slots of all services, and the counter that numbers slots and lives. No number is given twice. Contracts see it
+/// as `TableState`.
 #[derive(Drop)]
 pub struct ScanTable<A: Allocator + Clone = Global> {
     alloc: A,
-    /// By rising number.
+    /// The slots, by rising number.
     slots: Vec<Slot<A>, A>,
     /// The places of the slots, by the byte order of their names.
     index: Vec<usize, A>,
@@ -74,7 +74,7 @@ fn reserve<A: Allocator>(
     index.reserve(count)
 }
 
-/// Ends a part: whether it was there and had not ended.
+/// Notes that a part has ended. Returns whether it was there and had not ended.
 fn end_in<A: Allocator>(slots: &mut Vec<Slot<A>, A>, part: PartId) -> bool
     requires { AllPairs IsBefore slots.old.items }
     ensures slots { slots.new.items ≡ map (slot_ended part) slots.old.items }
@@ -93,7 +93,7 @@ fn restart_in<A: Allocator>(slots: &mut Vec<Slot<A>, A>, parts: &[PartId])
     restart_all(slots, parts);
 }
 
-/// Drops the slots that a scan drops, begins the parts that restart, and puts the new slots at the end.
+/// Drops the slots that a scan drops, begins the parts that restart, and adds the new slots at the end.
 fn change<A: Allocator>(
     slots: &mut Vec<Slot<A>, A>,
     rows: &[DirRow<A>],
@@ -111,7 +111,7 @@ fn change<A: Allocator>(
     let _ = slots.append(&mut new);
 }
 
-/// Takes the room that a scan needs, and then carries it out. Where the room is refused nothing changes.
+/// Takes the room that a scan needs, and then carries the scan out. If the room is refused, nothing changes.
 fn carry_out<A: Allocator>(
     slots: &mut Vec<Slot<A>, A>,
     index: &mut Vec<usize, A>,
@@ -137,7 +137,7 @@ fn carry_out<A: Allocator>(
 }
 
 impl<A: Allocator + Clone> ScanTable<A> {
-    /// A table without slots, whose first number is this one.
+    /// Returns a table without slots. This is its first number.
     pub fn new(alloc: A, next: u64) -> Result<ScanTable<A>, AllocError>
         ensures { IfOk result (λ table. table ≡ new_table next) }
     {
@@ -149,14 +149,14 @@ impl<A: Allocator + Clone> ScanTable<A> {
         })
     }
 
-    /// How many slots there are.
+    /// Returns how many slots there are.
     pub fn slots(&self) -> usize
         ensures { result ≡ length self.now.slots }
     {
         self.slots.len()
     }
 
-    /// The name of the service in the slot of a number.
+    /// Returns the name of the service in the slot with a number.
     pub fn name(&self, slot: u64) -> Option<&Name<A>>
         ensures { option_copied result ≡ option_map name_of (slot_at self.now.slots slot) }
     {
@@ -166,7 +166,7 @@ impl<A: Allocator + Clone> ScanTable<A> {
         }
     }
 
-    /// Whether there is a slot of this number, and it is a pair.
+    /// Returns whether there is a slot with this number, and it is a pair.
     pub fn is_pair(&self, slot: u64) -> bool
         ensures { result ≡ has_log (slot_at self.now.slots slot) }
     {
@@ -176,7 +176,7 @@ impl<A: Allocator + Clone> ScanTable<A> {
         }
     }
 
-    /// Whether there is a service of this name, and no part of it has ended.
+    /// Returns whether there is a service with this name, and no part of it has ended.
     pub fn is_whole(&self, name: &str) -> bool
         ensures { result ≡ is_whole self.now.slots name.now }
     {
@@ -186,15 +186,15 @@ impl<A: Allocator + Clone> ScanTable<A> {
         }
     }
 
-    /// A law: a scan does the same without the rows of the services of which no part has ended. So who lists a folder
-    /// need not look at these.
+    /// States a law: a scan does the same without the rows of the services with no ended part. Whoever lists a folder
+    /// therefore need not look at these.
     pub fn whole_need_no_row(&self)
         ensures { WholeNeedNoRow self.now }
     {
         let _count = self.slots.len();
     }
 
-    /// Notes that a part has ended: whether it is there and had not ended. No other part changes.
+    /// Notes that a part has ended. Returns whether it was there and had not ended. No other part changes.
     pub fn ended(&mut self, part: PartId) -> bool
         ensures running { result ≡ is_running self.old part }
         ensures table { self.new ≡ after_end self.old part }
@@ -202,7 +202,7 @@ impl<A: Allocator + Clone> ScanTable<A> {
         end_in(&mut self.slots, part)
     }
 
-    /// A copy of the table.
+    /// Copies the table.
     pub fn copy(&self) -> Result<ScanTable<A>, AllocError>
         ensures { IfOk result (λ copy. copy ≡ self.now) }
     {
@@ -214,7 +214,7 @@ impl<A: Allocator + Clone> ScanTable<A> {
         })
     }
 
-    /// Why a scan of these rows would be refused, want of memory aside. It takes no memory.
+    /// Returns why a scan of these rows would be refused, apart from a lack of memory. Needs no memory.
     pub fn check(&self, rows: &[DirRow<A>]) -> Result<(), ScanFault>
         ensures exact { fault_of result ≡ scan_refusal self.now rows.now }
         ensures rising { OnOk result (AreRising rows.now) }
@@ -222,16 +222,16 @@ impl<A: Allocator + Clone> ScanTable<A> {
         check_scan(&self.slots, &self.index, rows, self.next)
     }
 
-    /// Takes in what the folder holds, whose rows are to rise by the byte order of their names.
+    /// Takes in the entries of the folder. Their rows must rise by the byte order of their names.
     ///
-    /// A service without a row goes once its parts have ended. Each eligible row in order then restarts each part of
-    /// its service that has ended, or gets a new slot, where there are fewer than `MAX_SLOTS`; where there are as many,
-    /// its name is refused. A row is eligible where it is a directory whose name is not empty and does not begin with a
-    /// dot; a new slot is a pair, the service and its logger, where the row has a log and its name at most 255 bytes.
+    /// A service without a row goes after its parts have ended. Then each eligible row, in order, restarts each part of
+    /// its service that has ended, or gets a new slot, if there are fewer than `MAX_SLOTS`. If there are as many, its
+    /// name is refused. A row is eligible if it is a directory with a name that is not empty and does not begin with a
+    /// dot. A new slot is a pair, the service and its logger, if the row has a log and its name has at most 255 bytes.
     ///
-    /// `Unsorted` and `Twice` name the first place where the names do not rise, and come first; then `Exhausted`,
-    /// where there are fewer numbers than the scan needs; `OutOfMemory` only where nothing else is wrong. At a fault
-    /// the table is as it was.
+    /// `Unsorted` and `Twice` name the first place at which the names do not rise, and are reported first. `Exhausted`
+    /// is returned if fewer numbers are left than the scan needs, and `OutOfMemory` only if nothing else is wrong.
+    /// After a fault the table is as it was.
     pub fn scan(&mut self, rows: &[DirRow<A>]) -> Result<ScanOut<A>, ScanFault>
         ensures starts { IfOk result (λ out. out.starts ≡ starts self.old.slots self.old.next rows.now) }
         ensures restarts { IfOk result (λ out. out.restarts ≡ restarts self.old.slots self.old.next rows.now) }

@@ -1,4 +1,4 @@
--- Two stars in a row: the test finds them.
+-- The test for two adjacent stars finds them.
 use Rattle.std.proofs.Common.{◌≡◌, ℕ, ◌&&◌, ◌||◌, Bool, true, false, List, [], ◌∷◌, ◌++◌, refl, ap}
 use Rattle.std.proofs.lemmas.Bool.{and_parts, eqb-true, false≢true}
 use Rattle.star_match.specs.Star.{star, is_star, has_adjacent_stars}

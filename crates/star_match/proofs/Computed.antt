@@ -1,4 +1,4 @@
--- A scan to the first c finds the cut, where there is one.
+-- A scan to the first c finds the cut, if there is one.
 use Rattle.std.proofs.Common.{◌≡◌, ℕ, ◌==◌, true, false, List, [], ◌∷◌, ◌++◌, refl, sym, subst, ap, ◌∙◌}
 use Rattle.std.proofs.lemmas.Bool.{eq-eqb, ne_eqb, eqb-true, eqb-false, and_parts, false≢true}
 use Rattle.star_match.specs.Star.{star, is_star, IsWithout, Matches, empty, byte_first, star_last, star_before}
@@ -16,7 +16,7 @@ from_first-cons c x text is = rw is refl
 abbrev pub HasFront : ℕ → List ℕ → Type 0
 HasFront c text = (front : List ℕ) × IsWithout c front × (text ≡ front ++ from_first c text)
 
--- what stands before the first c
+-- the text before the first c
 pub front_of : (c : ℕ) (text : List ℕ) → HasFront c text
 front_of c [] = ([], refl, refl)
 front_of c (x ∷ text) =
@@ -41,7 +41,7 @@ from_first-begun c rest text other m =
     let text_is = (begins c rest text other m).1 in
     rw text_is (from_first-cons c c _ (eq-eqb c c refl))
 
--- The answer is yes where the pattern matches.
+-- If the pattern matches, the computed result is true.
 pub computes : (pattern text : List ℕ) → Matches pattern text → has_adjacent_stars pattern ≡ false
     → star_matches pattern text ≡ true
 computes pattern text empty apart = refl
@@ -57,7 +57,7 @@ computes pattern text (star_before {c} {rest} {text = after} part clean m) apart
     ∙ from_first-begun c rest after (next_is_plain c rest apart) later in
     subst (λ (t : List ℕ). star_matches (c ∷ rest) t ≡ true) (sym same) later
 
--- The pattern matches where the answer is yes.
+-- If the computed result is true, the pattern matches.
 abbrev Finds : List ℕ → Type 0
 Finds pattern = (text : List ℕ) → star_matches pattern text ≡ true → Matches pattern text
 

@@ -19,7 +19,7 @@ cut_of (star_last text) = (text ∷ [], (tt, tt), sym (append-nil text))
 cut_of (star_before part clean m) =
     let rest = cut_of m in (part ∷ rest.0, (clean, rest.1), ap (λ (t : List ℕ). part ++ t) rest.2)
 
--- Parts that are taken join to a text that matches.
+-- Parts that are taken are, when joined, a text that matches.
 abbrev Joins : List ℕ → Type 0
 Joins pattern = (parts : List (List ℕ)) → TakeParts pattern parts → Matches pattern (concat parts)
 
@@ -47,7 +47,7 @@ joins (byte ∷ rest) =
       | false ↦ λ e. joins_after_byte byte rest e (joins rest)
     ] refl
 
--- Of two fronts without c that end at a c, neither is longer.
+-- If two prefixes without c are each followed by a c, neither is longer.
 same_front : (c : ℕ) (xs ys after later : List ℕ) → IsWithout c xs → IsWithout c ys
     → xs ++ c ∷ after ≡ ys ++ c ∷ later → (xs ≡ ys) × (after ≡ later)
 same_front c [] [] after later p q e = (refl, cc)

@@ -24,7 +24,7 @@ last-append : (b : ℕ) (xs ys : List ℕ) → last_byte ys ≡ Some b → last_
 last-append b [] ys is = is
 last-append b (x ∷ xs) ys is = last-behind x b (xs ++ ys) (last-append b xs ys is)
 
--- Where a pattern ends in a plain byte, so does each text that it matches.
+-- If a pattern ends in a plain byte, so does each text that it matches.
 abbrev EndsSo : List ℕ → Type 0
 EndsSo pattern = (text : List ℕ) (b : ℕ) → is_star b ≡ false → last_byte pattern ≡ Some b
     → star_matches pattern text ≡ true
@@ -67,7 +67,7 @@ ends_so (byte ∷ c ∷ rest) =
       | false ↦ λ e. ends_after_byte byte c rest e (ends_so (c ∷ rest))
     ] refl
 
--- as the code reads the last bytes
+-- the same, as the code reads the last bytes
 pub ends_alike : (pattern text : List ℕ) (p t : Option (Bor ℕ)) (byte : Bor ℕ) → option_copied p ≡ last_byte pattern
     → p ≡ Some byte → (byte.now ≡ star → ⊥)
     → option_copied t ≡ last_byte text → star_matches pattern text ≡ true

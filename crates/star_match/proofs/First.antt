@@ -1,4 +1,4 @@
--- A search for a byte finds the text from its first one on.
+-- A search for a byte finds the text from the first such byte on.
 use Rattle.std.proofs.Common.{◌≡◌, ℕ, zero, suc, ◌-◌, ◌<◌, ◌==◌, Bool, true, false, List, [], ◌∷◌, length, take, drop}
 use Rattle.std.proofs.Common.{refl, sym, ◌∙◌, arith}
 use Rattle.std.specs.Prelude.{Option, Some, None, unwrap_or}
@@ -30,7 +30,7 @@ from_place : (c : ℕ) (text : List ℕ) (r : Option ℕ) → IsFirstByte (is_by
 from_place c text None none = drop-length text ∙ sym (from_first-none c text none)
 from_place c text (Some k) found = let high = found.0.high in from_first-some c text k high found.1 found.0.before
 
--- as the code cuts the text
+-- the same, as the code cuts the text
 pub cut_at : (c : ℕ) (text : List ℕ) (r : Option ℕ) (at : ℕ) → IsFirstByte (is_byte c) text r
     → at ≡ unwrap_or r (length text)
     → take (length text - at) (drop at text) ≡ from_first c text

@@ -1,4 +1,4 @@
--- What a list without c, a pattern with no two stars in a row, and a match are made of.
+-- The parts of a list without c, of a pattern without adjacent stars, and of a match.
 use Rattle.std.proofs.Common.{◌≡◌, ℕ, ◌==◌, true, false, ◌&&◌, List, [], ◌∷◌, ◌++◌, refl, sym}
 use Rattle.std.specs.List.{list_any}
 use Rattle.std.proofs.lemmas.Bool.{eqb-true, or_parts, false≢true}
@@ -19,7 +19,7 @@ pub tail_is_apart : (x : ℕ) (rest : List ℕ) → has_adjacent_stars (x ∷ re
 tail_is_apart x [] apart = refl
 tail_is_apart x (y ∷ rest) apart = (apart_parts x y rest apart).1
 
--- what follows a star is no star
+-- the byte after a star is no star
 pub next_is_plain : (c : ℕ) (rest : List ℕ) → has_adjacent_stars (star ∷ c ∷ rest) ≡ false → is_star c ≡ false
 next_is_plain c rest apart = (apart_parts star c rest apart).0
 

@@ -1,16 +1,16 @@
--- What `Matches` means, said of whole patterns. Each law is the contract of a function in `src/laws.rt`. A word
--- is a run of bytes without a star.
+-- What `Matches` means for whole patterns. Each law is the contract of a function in `src/laws.rt`. A word is a run of
+-- bytes without a star.
 use Rattle.std.specs.Prelude.{◌≡◌, ◌↔◌, ⊤, ℕ, true, false, List, [], ◌∷◌, ◌++◌}
 use Rattle.std.specs.Bool.{MatchBool}
 use Rattle.std.specs.List.{concat}
 use Rattle.star_match.specs.Star.{star, is_star, IsWithout, Matches, has_adjacent_stars, star_matches}
 
--- A star at the end takes any bytes, and a star before c any bytes without c.
+-- A star at the end takes any bytes. A star before c takes any bytes without c.
 abbrev pub StarTakes : List ℕ → List ℕ → Type 0
 StarTakes [] part = ⊤
 StarTakes (c ∷ rest) part = IsWithout c part
 
--- A byte of a pattern, before this rest, takes this part of a text: what is no star takes itself.
+-- A byte of a pattern, before this rest, takes this part of a text. A byte that is no star takes itself.
 abbrev pub Takes : ℕ → List ℕ → List ℕ → Type 0
 Takes byte rest part = MatchBool (is_star byte) (StarTakes rest part) (part ≡ byte ∷ [])
 
@@ -21,12 +21,14 @@ TakeParts [] (part ∷ parts) = ⊥
 TakeParts (byte ∷ rest) [] = ⊥
 TakeParts (byte ∷ rest) (part ∷ parts) = Takes byte rest part × TakeParts rest parts
 
--- A pattern matches the concatenations of what its bytes take, in the same order. So the multilog page says it.
+-- A pattern matches the concatenations of what its bytes take, in the same order. The multilog page says it in this
+-- way.
 abbrev pub MatchesConcatenations : Type 0
 MatchesConcatenations = (pattern text : List ℕ)
     → Matches pattern text ↔ ((parts : List (List ℕ)) × TakeParts pattern parts × (text ≡ concat parts))
 
--- Where no two stars stand in a row, a text has at most one cut into such parts: so one scan finds it.
+-- If no two stars are next to each other, a text can be cut into such parts in at most one way. Therefore one scan
+-- finds it.
 abbrev pub HasOneCut : Type 0
 HasOneCut = (pattern : List ℕ) (parts others : List (List ℕ)) → has_adjacent_stars pattern ≡ false
     → TakeParts pattern parts → TakeParts pattern others → concat parts ≡ concat others → parts ≡ others
@@ -44,19 +46,19 @@ abbrev pub WordAndStarMatchFront : Type 0
 WordAndStarMatchFront = (word text : List ℕ) → IsWithout star word
     → Matches (word ++ star ∷ []) text ↔ ((after : List ℕ) × (text ≡ word ++ after))
 
--- A word between two stars matches the texts in which the word stands, with its first byte c nowhere before it.
--- So a star is no search: `*ab*` does not match `aab`.
+-- A word between two stars matches the texts that contain the word, if its first byte c does not occur before it. A
+-- star is therefore no search: `*ab*` does not match `aab`.
 abbrev pub WordStandsAtFirst : Type 0
 WordStandsAtFirst = (c : ℕ) (rest text : List ℕ) → IsWithout star (c ∷ rest)
     → Matches (star ∷ (c ∷ rest) ++ star ∷ []) text
     ↔ ((front after : List ℕ) × IsWithout c front × (text ≡ front ++ (c ∷ rest) ++ after))
 
--- Two stars stand in a row where the pattern is a front, two stars and a rest.
+-- A pattern has two adjacent stars exactly if it is a first part, two stars and a rest.
 abbrev pub AdjacentStarsStand : Type 0
 AdjacentStarsStand = (pattern : List ℕ)
     → (has_adjacent_stars pattern ≡ true) ↔ ((front after : List ℕ) × (pattern ≡ front ++ star ∷ star ∷ after))
 
--- Where no two stars stand in a row, the computed answer is the relation.
+-- If no two stars are adjacent, the computed result is the relation.
 abbrev pub ComputesMatches : Type 0
 ComputesMatches = (pattern text : List ℕ) → has_adjacent_stars pattern ≡ false
     → (star_matches pattern text ≡ true) ↔ Matches pattern text

@@ -3,43 +3,45 @@ ghost use Rattle.star_match.specs.Laws.{MatchesConcatenations, HasOneCut, WordMa
 ghost use Rattle.star_match.specs.Laws.{WordAndStarMatchFront, WordStandsAtFirst, AdjacentStarsStand};
 ghost use Rattle.star_match.specs.Laws.{ComputesMatches};
 
-/// A pattern matches exactly the concatenations of what its bytes take, in the same order: a star at the end takes
-/// any bytes, a star before c any bytes without c, and every other byte itself. So the multilog page says it.
+/// States that a pattern matches exactly the concatenations of what its bytes take, in the same order. A star at the
+/// end takes any bytes, a star before c takes any bytes without c, and each other byte takes itself. The multilog page
+/// says it in this way.
 pub fn a_match_is_a_concatenation()
     ensures { MatchesConcatenations }
 {}
 
-/// Where no two stars stand in a row, a text can be cut into such parts in one way at most.
+/// States that a text can be cut into such parts in at most one way, if no two stars are adjacent.
 pub fn a_match_has_one_cut()
     ensures { HasOneCut }
 {}
 
-/// A pattern without stars matches itself, and no other text.
+/// States that a pattern without stars matches itself, and no other text.
 pub fn a_word_matches_itself()
     ensures { WordMatchesItself }
 {}
 
-/// The pattern `*` matches every text.
+/// States that the pattern `*` matches every text.
 pub fn a_star_matches_all()
     ensures { StarMatchesAll }
 {}
 
-/// The pattern `word*` matches exactly the texts that begin with the word.
+/// States that the pattern `word*` matches exactly the texts that begin with the word.
 pub fn a_word_and_a_star_match_a_front()
     ensures { WordAndStarMatchFront }
 {}
 
-/// The pattern `*word*` matches exactly the texts in which the word stands, and its first byte nowhere before it.
+/// States that the pattern `*word*` matches exactly the texts that contain the word, if the word's first byte does not
+/// occur before it.
 pub fn a_word_stands_at_its_first_byte()
     ensures { WordStandsAtFirst }
 {}
 
-/// The test for two stars in a row finds them wherever they stand, and nothing else.
+/// States that the test for adjacent stars finds them anywhere in a pattern, and finds nothing else.
 pub fn adjacent_stars_stand()
     ensures { AdjacentStarsStand }
 {}
 
-/// Where no two stars stand in a row, the computed answer `star_matches` is the relation `Matches`.
+/// States that the computed result `star_matches` is the relation `Matches`, if no two stars are adjacent.
 pub fn the_answer_is_computed()
     ensures { ComputesMatches }
 {}

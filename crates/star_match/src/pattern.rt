@@ -7,7 +7,7 @@ use std::alloc::{Allocator, Global};
 use std::marker::Model;
 use thiserror::Error;
 
-/// A pattern of any bytes, with no two stars in a row. A clause sees the list of its bytes.
+/// A pattern of any bytes, with no two adjacent stars. Contracts see the list of its bytes.
 #[derive(Debug, Drop)]
 pub struct Pattern<A: Allocator + Clone = Global> {
     bytes: Vec<u8, A>,
@@ -27,11 +27,11 @@ impl<A: Allocator + Clone> Model for Pattern<A> {
 /// Why there is no pattern.
 #[derive(Clone, Copy, Debug, PartialEq, Eq, Error)]
 pub enum PatternFault {
-    /// Two stars stand in a row.
+    /// Two stars are adjacent.
     #[error("AdjacentStars")]
     AdjacentStars,
 
-    /// The allocator refused the memory for the bytes.
+    /// The allocator refused memory for the bytes.
     #[error("OutOfMemory")]
     OutOfMemory,
 }
@@ -39,8 +39,8 @@ pub enum PatternFault {
 impl<A: Allocator + Clone> Pattern<A> {
     /// Reads a pattern, in which each `*` is a star.
     ///
-    /// Two stars in a row are `AdjacentStars`, also where there is no memory. Else `OutOfMemory` comes only where
-    /// the allocator refuses a copy of the bytes. The empty pattern takes none.
+    /// `AdjacentStars` is returned if two stars are adjacent, even if there is no memory. Otherwise `OutOfMemory` is
+    /// returned only if the allocator refuses a copy of the bytes. The empty pattern needs no memory.
     pub fn read(alloc: A, bytes: &[u8]) -> Result<Self, PatternFault>
         ensures ok { IfOk result (λ pattern. pattern ≡ bytes.now) }
         ensures adjacent { IsErrOf result PatternFault.AdjacentStars ↔ (has_adjacent_stars bytes.now ≡ true) }
@@ -55,8 +55,8 @@ impl<A: Allocator + Clone> Pattern<A> {
         Ok(Pattern { bytes: own })
     }
 
-    /// Whether the pattern matches the whole text. It takes one scan of the text at most, and no memory: a text that
-    /// has another last byte than a pattern that doesn't end in a star is not scanned.
+    /// Returns whether the pattern matches the whole text. It takes at most one scan of the text, and no memory. The
+    /// text is not scanned at all if the pattern's last byte is no star and differs from the text's last byte.
     #[tactic(auto, using(crate::proofs::Computed::computes, crate::proofs::Computed::finds))]
     pub fn matches(&self, text: &[u8]) -> bool
         ensures relation { IsTrue result ↔ Matches self.now text.now }
@@ -66,7 +66,7 @@ impl<A: Allocator + Clone> Pattern<A> {
     }
 }
 
-/// Whether two stars stand in a row. Such bytes are no pattern.
+/// Returns whether two stars are adjacent. Such bytes are no pattern.
 pub fn has_adjacent_stars(bytes: &[u8]) -> bool
     ensures { result ≡ has_adjacent_stars bytes.now }
 {
@@ -80,7 +80,8 @@ pub fn has_adjacent_stars(bytes: &[u8]) -> bool
     false
 }
 
-/// Whether the text ends as the pattern does: where the pattern's last byte is no star, that is the text's last byte.
+/// Returns whether the text ends as the pattern does: if the pattern's last byte is no star, it must be the text's last
+/// byte.
 fn has_end(pattern: &[u8], text: &[u8]) -> bool
     ensures { star_matches pattern.now text.now ≡ true → result ≡ true }
 {
@@ -93,7 +94,7 @@ fn has_end(pattern: &[u8], text: &[u8]) -> bool
     text.last() == Some(byte)
 }
 
-/// The text from its first `byte` on, and nothing where it has none.
+/// Returns the text from its first `byte` on, or nothing if it has none.
 fn from_first(byte: u8, text: &[u8]) -> &[u8]
     ensures { result.now ≡ from_first byte text.now }
 {
@@ -101,7 +102,7 @@ fn from_first(byte: u8, text: &[u8]) -> &[u8]
     &text[at..]
 }
 
-/// Goes along the pattern, with what is left of the text.
+/// Matches the pattern with what is left of the text.
 fn is_match(pattern: &[u8], text: &[u8]) -> bool
     requires { has_adjacent_stars pattern.now ≡ false }
     ensures { result ≡ star_matches pattern.now text.now }

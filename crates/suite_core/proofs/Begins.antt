@@ -1,4 +1,4 @@
--- Each part that a scan begins is there after it.
+-- Each part that a scan begins is there after the scan.
 use Rattle.std.proofs.Common.{◌≡◌, ◌≢◌, ℕ, suc, ◌+◌, ◌<◌, Bool, true, false, not, ◌||◌, List, [], ◌∷◌, ◌++◌, get_or}
 use Rattle.std.proofs.Common.{take, map, refl, sym, subst, ap, ◌∙◌, arith, Option, Some, None, if◌then◌else◌, inl, inr}
 use Rattle.std.proofs.Common.{◌⊎◌}
@@ -75,7 +75,7 @@ accepted-rise table rows none =
       | (Some why) ↦ λ order none. absurd (cc)
     ] refl none
 
--- Something of a list
+-- A property of some item of a list
 
 abbrev AnyOf : {T : Type 0} → (T → Type 0) → List T → Type 0
 AnyOf P [] = ⊥
@@ -116,7 +116,7 @@ any-unmap P f [] any = absurd any
 any-unmap P f (x ∷ xs) (inl here) = inl here
 any-unmap P f (x ∷ xs) (inr later) = inr (any-unmap P f xs later)
 
--- The slot of a row
+-- The slot with a row's name
 
 slot-prop : (P : SlotState → Type 0) (slots : List SlotState) (row : Row) (slot : SlotState) → All P slots
     → slot_of slots row ≡ Some slot → P slot
@@ -168,7 +168,7 @@ only-slot (first ∷ slots) row slot rising at =
           (only-slot slots row slot (pairs-tail IsBefore first slots rising) at)
     ] at
 
--- The parts that restart have places of their own.
+-- The parts that restart have different places.
 
 abbrev Apart : PartId → PartId → Type 0
 Apart a b = rank a ≢ rank b
@@ -208,7 +208,7 @@ other-slots slots rows row slot n (other ∷ rest) rising at below =
 apart-by-slot : (a b : PartId) (number : ℕ) → a.slot ≡ number → b.slot ≢ number → Apart a b
 apart-by-slot a b number is other = λ e. other (omega (arith, e, is, rank-bound a.role, rank-bound b.role))
 
--- Within a slot, the service and its logger
+-- The service and its logger within a slot
 
 abbrev roles_ended : Life → Option Life → List Role
 roles_ended main log =
@@ -333,7 +333,7 @@ slot-serves n slot =
               ]
         ]
 
--- A slot of an eligible row is not dropped.
+-- A slot with an eligible row is not dropped.
 slot-stays : (rows : List Row) (row : Row) (slot : SlotState)
     → list_any (λ (r : Row). is_name r.name slot.name) (eligible rows) ≡ true → not (is_dropped rows slot) ≡ true
 slot-stays rows row slot has = rw has refl
@@ -366,7 +366,7 @@ restarts-served slots rows n (row ∷ rest) each =
     ] refl)
     (restarts-served slots rows (n + need slots rows row) rest (All-tail Has row rest each))
 
--- each eligible row is the row of a slot of its name
+-- each eligible row is the row of a slot with its name
 any-of-true : (q : Row → Bool) (xs : List Row)
     → All (λ (x : Row). (r : Row) → x ≡ r → q r ≡ true → list_any q xs ≡ true) xs
 any-of-true q [] = All-nil (λ (x : Row). (r : Row) → x ≡ r → q r ≡ true → list_any q [] ≡ true)
@@ -378,7 +378,7 @@ any-of-true q (x ∷ xs) =
     (λ y later r e is. let more = later r e is in
     elim (q x) as (λ b. (b || list_any q xs) ≡ true) [ true ↦ refl | false ↦ more ]) xs (any-of-true q xs))
 
--- What restarts stands in the place that it takes.
+-- A part that restarts is in the place that it takes.
 
 restarted-of : (news : List PartState) (part new : PartState)
     → AllPairs (λ (a : PartState) (b : PartState). Apart a.id b.id) news → AnyOf (λ (x : PartState). x ≡ new) news
@@ -488,7 +488,7 @@ all-both : {T : Type 0} (P Q R : T → Type 0) (xs : List T) → ((x : T) → P 
     → All R xs
 all-both P Q R xs each one two k d w = each (get_or xs k d) (one k d w) (two k d w)
 
--- A begun part is there with its new trace.
+-- A part that was begun is there with its new trace.
 abbrev Begun : SuiteState → List Row → Tai64n → Beginning → Type 0
 Begun suite rows label begins = trace_of (parts_scanned suite rows label) begins.part
     ≡ Some (new_trace (state_of (opening label begins)) suite.capacity)

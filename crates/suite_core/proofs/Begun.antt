@@ -1,4 +1,4 @@
--- What a scan begins.
+-- The parts that a scan begins.
 use Rattle.std.proofs.Common.{◌≡◌, ℕ, ◌+◌, ◌<◌, Bool, List, [], ◌∷◌, ◌++◌, length, get_or, map, drop, sym, ap, ◌∙◌}
 use Rattle.std.proofs.Common.{refl, arith, suc, append_assoc}
 use Rattle.std.proofs.Math.Seq.{drop-cons}
@@ -12,7 +12,7 @@ use Rattle.scan_table.specs.Scan.{drops}
 use Rattle.suite_core.specs.Suite.{SuiteState, Beginning, beginning, beginnings, begun_part, begun_out, scan_starts}
 use Rattle.suite_core.specs.Suite.{scan_restarts, changed, parts_scanned, suite_scanned}
 
--- A part that begins as this flag says begins as its row says, where the flag is the row's.
+-- A part that begins with this flag begins as its row says, if the flag is the row's.
 pub begun-as : (capacity : ℕ) (label : Tai64n) (slots : List SlotState) (rows : List Row) (id : PartId) (down : Bool)
     (part : PartState) →
     part ≡ begun_part capacity label (record { part = id; down = down }) → down ≡ (beginning slots rows id).down
@@ -25,12 +25,12 @@ pub said-as : (label : Tai64n) (slots : List SlotState) (rows : List Row) (id : 
     → said ≡ begun_out label (beginning slots rows id)
 said-as label slots rows id down said is same = is ∙ ap (λ d. begun_out label (record { part = id; down = d })) same
 
--- one element more
+-- one more element
 pub pushed : {T : Type 0} (made more : List T) (item whole : T) → more ≡ made ++ item ∷ [] → item ≡ whole
     → more ≡ made ++ whole ∷ []
 pushed made more item whole is same = is ∙ ap (λ x. made ++ x ∷ []) same
 
--- One element more of a list that is mapped twice: what is made goes on to what is left.
+-- One more element of a list that is mapped twice. What is made and what is left stay the whole.
 pub map-more : {X Y Z : Type 0} (f : Y → Z) (h : X → Y) (xs : List X) (i : ℕ) (d : X) (made more whole : List Z)
     → i < length xs →
     made ++ map f (map h (drop i xs)) ≡ whole → more ≡ made ++ f (h (get_or xs i d)) ∷ []
@@ -43,7 +43,7 @@ map-more f h xs i d made more whole within so here =
     ∙ append_assoc made (f (h (get_or xs i d)) ∷ []) (map f (map h (drop (i + 1) xs)))
     ∙ ap (λ l. made ++ map f (map h l)) (sym cut) ∙ so
 
--- A scan's beginnings, as the table after it and the parts of its answer say
+-- The parts that a scan begins, in the words of the table after it and of its result
 
 pub parts-as : (table after : TableState) (rows : List Row) (capacity : ℕ) (label : Tai64n) (seen ids : List PartId)
     (parts : List PartState) → after ≡ scanned table rows → seen ≡ ids →

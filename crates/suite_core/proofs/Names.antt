@@ -15,11 +15,11 @@ and-false false = refl
 pub is_part-self : (a : PartId) → is_part a a ≡ true
 is_part-self a = grind (arith, nat_tests)
 
--- Names that the test passes are one name.
+-- Two names that pass the test are the same.
 pub is_part-same : (a b : PartId) → is_part a b ≡ true → a ≡ b
 is_part-same a b same = grind (arith, nat_tests)
 
--- Another life is another part.
+-- Another life means another part.
 pub is_part-later : (a b : PartId) → b.life < a.life → is_part a b ≡ false
 is_part-later a b later =
     let no : (b.life == a.life) ≡ false = grind (arith, nat_tests) in

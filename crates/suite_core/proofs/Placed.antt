@@ -19,7 +19,7 @@ use Rattle.suite_core.specs.Suite.{SuiteState, outs_at, table_noted, suite_at, r
 use Rattle.suite_core.specs.Places.{rank, AreRising, IsEdge, IsPlaceOf, IsPartAt, HasNone}
 use Rattle.suite_core.proofs.Names.{is_part-same, is_place-rank}
 
--- The parts up to one that comes before come before.
+-- If a part comes before, all parts up to it come before.
 pub before-edge : (parts : List PartState) (id : PartId) (middle : ℕ) → AreRising parts → middle < length parts
     → ((d : PartState) → rank (get_or parts middle d).id < rank id) →
     (k : ℕ) (d : PartState) → k < middle + 1 → rank (get_or parts k d).id < rank id
@@ -44,12 +44,12 @@ after-edge parts id middle rising more k d b within =
           subst (λ n. rank id ≤ rank (get_or parts n d).id) (sym e) (more d)
     ]
 
--- a part that is read, at whatever default
+-- a part that is read, with any default
 pub rank-read : (parts : List PartState) (place : ℕ) (part : PartState) → place < length parts
     → part ≡ get_or parts place part → (d : PartState) → get_or parts place d ≡ part
 rank-read parts place part within read d = get_or_default parts place d part within ∙ sym read
 
--- no part of a slot and role, where the first that does not come before is another
+-- no part has a slot and role, if the first part that does not come before is another one
 pub none-at : (parts : List PartState) (id : PartId) (place : ℕ) → IsEdge parts id place → AreRising parts
     → (place < length parts → (d : PartState) → rank (get_or parts place d).id ≢ rank id) → HasNone parts id
 none-at parts id place edge rising other k d within =
@@ -81,7 +81,7 @@ others parts id place rising at k d within other =
           rising place k d (omega arith) within in λ same. absurd (omega (arith, less, here, same))
     ]
 
--- The place of a part is that of its slot and role.
+-- The place of a part is the place of its slot and role.
 pub part-place : (parts : List PartState) (id : PartId) (place : ℕ) → IsPartAt parts id place → IsPlaceOf parts id place
 part-place parts id place at =
     record { within = at.within; here = λ d. ap rank (is_part-same (get_or parts place d).id id (at.here d)) }
@@ -115,11 +115,11 @@ trace-nowhere (first ∷ parts) id none =
     let no : is_part first.id id ≡ false = none 0 first (omega arith) in
     rw no (trace-nowhere parts id (λ k d b. none (suc k) d (omega arith)))
 
--- no part of the name where none has its slot and role
+-- no part has the name, if none has its slot and role
 pub trace-none : (parts : List PartState) (id : PartId) → HasNone parts id → trace_of parts id ≡ None
 trace-none parts id none = trace-nowhere parts id (λ k d b. other-part (get_or parts k d) id (none k d b))
 
--- no part of the name where the one of its slot and role has another life
+-- no part has the name, if the one with its slot and role has another life
 pub trace-other : (parts : List PartState) (id : PartId) (place : ℕ) (part : PartState) → AreRising parts
     → IsPlaceOf parts id place → part ≡ get_or parts place part → is_part part.id id ≡ false →
     trace_of parts id ≡ None
@@ -135,12 +135,12 @@ trace-other parts id place part rising at read differs =
       ]
     ])
 
--- the element at a place, whatever is read past the end
+-- the element at a place, with any default for places past the end
 again : (xs : List PartState) (place : ℕ) (d : PartState) → place < length xs
     → get_or xs place d ≡ get_or xs place (get_or xs place d)
 again xs place d within = get_or_default xs place d (get_or xs place d) within
 
--- An event at the part of a place is one at that part.
+-- An event at the part at a place is one at that part.
 pub after-at : (parts : List PartState) (id : PartId) (event : Event) (place : ℕ) (d new : PartState) → AreRising parts
     → IsPartAt parts id place →
     new ≡ record { id = (get_or parts place d).id; trace = noted_if_taken (get_or parts place d).trace event }
@@ -154,7 +154,7 @@ after-at parts id event place d new rising at is =
     other-part (get_or parts k e) id (others parts id place rising (part-place parts id place at) k e b other) in
     rw no refl)
 
--- what is read at the place of a part, at whatever default
+-- what is read at the place of a part, with any default
 trace-read : (parts : List PartState) (id : PartId) (place : ℕ) (d : PartState) → AreRising parts
     → IsPartAt parts id place → trace_of parts id ≡ Some (get_or parts place d).trace
 trace-read parts id place d rising at =
@@ -174,13 +174,13 @@ ended-at parts id event place d ended rising at is =
     subst (λ t. IfSome t (λ kept. ended ≡ has_ended (noted_if_taken kept event)))
     (sym (trace-read parts id place d rising at)) is
 
--- A part that stands somewhere is there.
+-- A part that has a place is there.
 pub part-stands : (parts : List PartState) (id : PartId) (place : ℕ) → AreRising parts → IsPartAt parts id place
     → is_none (trace_of parts id) ≡ false
 part-stands [] id place rising at = absurd (omega (arith, at.within))
 part-stands (part ∷ parts) id place rising at = ap is_none (trace-read (part ∷ parts) id place part rising at)
 
--- The table is reported what the trace says.
+-- The table notes what the trace says.
 pub reported-as : (table : TableState) (id : PartId) (event : Event) (t : Option Kept) (ended : Bool)
     → is_none t ≡ false →
     IfSome t (λ kept. ended ≡ has_ended (noted_if_taken kept event)) → (if ended then after_end table id else table)
@@ -188,7 +188,7 @@ pub reported-as : (table : TableState) (id : PartId) (event : Event) (t : Option
 reported-as table id event None ended there reported = absurd (cc)
 reported-as table id event (Some kept) ended there reported = ap (λ b. if b then after_end table id else table) reported
 
--- the suite after an event at a part that stands somewhere
+-- the suite after an event at a part that has a place
 pub suite-at : (suite : SuiteState) (id : PartId) (event : Event) (place : ℕ) (seen parts : List PartState)
     (table : TableState) (ended : Bool) → AreRising suite.parts → seen ≡ suite.parts →
     IsPartAt seen id place → parts ≡ parts_after id event suite.parts
@@ -201,7 +201,7 @@ suite-at suite id event place seen parts table ended rising same at is reported 
     ∙ reported-as suite.table id event (trace_of suite.parts id) ended there reported in
     rw (tables, is) refl
 
--- No event is refused at a part that stands somewhere.
+-- No event is refused at a part that has a place.
 pub not-refused : (suite : SuiteState) (id : PartId) (place : ℕ) (seen : List PartState) → AreRising suite.parts
     → seen ≡ suite.parts → IsPartAt seen id place → refusal_at suite id ≡ None
 not-refused suite id place seen rising same at =
@@ -214,7 +214,7 @@ refused suite id seen same none =
     let none' : trace_of suite.parts id ≡ None = ap (λ ps. trace_of ps id) (sym same) ∙ none in
     rw none' refl
 
--- Restarting
+-- Restarts
 
 other-place : (new part : PartState) → rank part.id ≢ rank new.id → restarted_in (new ∷ []) part ≡ part
 other-place new part other =
@@ -242,7 +242,7 @@ restarted-more : (new : PartState) (news parts : List PartState)
 restarted-more new news [] = refl
 restarted-more new news (part ∷ parts) = ap (λ xs. restarted_in (new ∷ news) part ∷ xs) (restarted-more new news parts)
 
--- The ranks are as before.
+-- The ranks do not change.
 pub restarted-rising : (new : PartState) (parts : List PartState) → AreRising parts
     → AreRising (map (restarted_in (new ∷ [])) parts)
 restarted-rising new parts rising i j d before within =
@@ -269,7 +269,7 @@ restarted-rising new parts rising i j d before within =
           | false ↦ λ at. refl
         ] refl
 
--- one part more
+-- one more part
 pub restarted-step : (items rest : List PartState) (new : PartState) (parts parts' whole : List PartState)
     → items ≡ new ∷ rest → parts' ≡ map (restarted_in (new ∷ [])) parts →
     map (restarted_in items) parts ≡ whole → map (restarted_in rest) parts' ≡ whole
@@ -277,13 +277,13 @@ restarted-step items rest new parts parts' whole cut is so =
     ap (map (restarted_in rest)) is ∙ restarted-more new rest parts
     ∙ ap (λ news. map (restarted_in news) parts) (sym cut) ∙ so
 
--- no part more
+-- no more parts
 pub restarted-end : (items parts whole : List PartState) → length items ≡ 0 → map (restarted_in items) parts ≡ whole
     → parts ≡ whole
 restarted-end [] parts whole none so = sym (map-none (restarted_in []) parts (λ k d b. refl)) ∙ so
 restarted-end (item ∷ items) parts whole none so = absurd (omega (arith, none))
 
--- How a part that was read stands to another, as a comparison reports
+-- How a part that was read compares with another, as the comparison returns it
 
 pub read-before : (parts : List PartState) (place : ℕ) (part : PartState) (id reported : PartId) (result : Bool)
     → place < length parts → part ≡ get_or parts place part → reported ≡ part.id →

@@ -44,7 +44,7 @@ use Rattle.suite_core.proofs.Traces.{noted_where, trace_of-after, AreOthers, is_
 use Rattle.suite_core.proofs.Traces.{trace_of-changed}
 use Rattle.suite_core.proofs.Tied.{tied-at, tied-scan, parts-rise, parts-below}
 
--- What holds of a part that is there
+-- A property of a part that is there
 
 pub part-there : (P : PartState → Type 0) (parts : List PartState) (id : PartId) (kept : Kept) → All P parts
     → trace_of parts id ≡ Some kept →
@@ -72,7 +72,7 @@ trace-there suite id kept is at =
     let found = part-there (λ (part : PartState). IsTrace part.trace) suite.parts id kept is.traces at in
     subst IsTrace found.3 found.1
 
--- A suite after an event is one.
+-- A suite after an event is a suite.
 
 traces-after : (id : PartId) (event : Event) (parts : List PartState) → IsEvent event
     → All (λ (part : PartState). IsTrace part.trace) parts →
@@ -160,9 +160,9 @@ IsSuite-along suite [] conditions is = is
 IsSuite-along suite (event ∷ events) conditions is =
     IsSuite-along (suite_after suite event) events conditions.1 (IsSuite-after suite event conditions.0 is)
 
--- What a scan is to a part
+-- What a scan means for a part
 
--- Parts that are given lives from a number on are none that was there before.
+-- Parts with lives from a number on are none of the parts that were there before.
 begun-others : (capacity : ℕ) (label : Tai64n) (slots : List SlotState) (rows : List Row) (low high : ℕ)
     (ids : List PartId) (id : PartId) → id.life < low → AreFresh low high ids →
     AreOthers id (map (begun_part capacity label) (map (beginning slots rows) ids))
@@ -208,7 +208,7 @@ abbrev IsSameOrNone : Option Kept → Kept → Type 0
 IsSameOrNone None kept = Unit {0}
 IsSameOrNone (Some later) kept = later ≡ kept
 
--- A part that is gone from the suite stays so: its life is not given again.
+-- A part that is no longer in the suite stays away: its life is not given again.
 gone-along : {A : Type 0} → (suite : SuiteState) (events : List (SuiteEvent A)) (id : PartId)
     → id.life < suite.table.next → trace_of suite.parts id ≡ None →
     trace_of (suite_along suite events).parts id ≡ None
@@ -229,7 +229,7 @@ gone-along suite (Scan rows label ∷ events) id below none =
     ∙ ap (λ t. if is_taken_away suite rows id then None else t) none
     ∙ elim (is_taken_away suite rows id) as (λ b. (if b then None else None) ≡ no_trace) [ true ↦ refl | false ↦ refl ])
 
--- A part is gone, or its trace has taken its own events.
+-- A part is no longer there, or its trace has taken its own events.
 own-along : {A : Type 0} → (suite : SuiteState) (events : List (SuiteEvent A)) (id : PartId) (kept : Kept)
     → IsSuite suite → AllByRecursion IsSuiteEvent events →
     trace_of suite.parts id ≡ Some kept
@@ -288,7 +288,7 @@ accepted-more suite [] event accepted here = (here, tt)
 accepted-more suite (e ∷ events) event accepted here =
     (accepted.0, accepted-more (suite_after suite e) events event accepted.1 here)
 
--- An event that is not refused is answered once.
+-- An event that is not refused has one result.
 one-out : {A : Type 0} → (suite : SuiteState) (event : SuiteEvent A) → refusal suite event ≡ None
     → length (outs_of suite event) ≡ 1
 one-out {A = A} suite (At id event) none =
@@ -299,7 +299,7 @@ one-out {A = A} suite (At id event) none =
     ] none
 one-out suite (Scan rows label) none = refl
 
--- As many outputs as events.
+-- There are as many outputs as events.
 outs-count : {A : Type 0} → (suite : SuiteState) (events : List (SuiteEvent A)) → AreAccepted suite events
     → length (outs_along suite events) ≡ length events
 outs-count suite [] accepted = refl
@@ -311,7 +311,7 @@ outs-count suite (event ∷ events) accepted =
       outs-count (suite_after suite event) events accepted.1,
     )
 
--- A run goes on by one event.
+-- A run continues by one event.
 pub ran-more : {A : Type 0}
     → (suite left after_it : SuiteState) (outs outs_left outs_after : List (StepOut A)) (events : List (SuiteEvent A))
     (n : ℕ) (event : SuiteEvent A) →
@@ -366,7 +366,7 @@ conditions-drop [] (suc n) conditions = tt
 conditions-drop (event ∷ events) zero conditions = conditions
 conditions-drop (event ∷ events) (suc n) conditions = conditions-drop events n conditions.1
 
--- A suite at a place of a run is one.
+-- A suite at a place of a run is a suite.
 pub at-place : {A : Type 0} → (suite : SuiteState) (events : List (SuiteEvent A)) (place : ℕ) → IsSuite suite
     → AllByRecursion IsSuiteEvent events → IsSuite (suite_along suite (take place events))
 at-place suite events place is conditions =
@@ -377,7 +377,7 @@ follows : (t : Option Kept) (kept : Kept) (own : List Event) → Follows kept ow
 follows None kept own reported same = tt
 follows (Some later) kept own reported same = subst (Follows kept own) (sym same) reported
 
--- Each part goes on by its own events.
+-- Each part continues by its own events.
 pub by-own-events : {A : Type 0} → (suite : SuiteState) (events : List (SuiteEvent A)) (n : ℕ) → IsSuite suite
     → All IsSuiteEvent events → GoByOwnEvents suite events n
 by-own-events suite events n is conditions id from to kept ordered within at =
@@ -399,7 +399,7 @@ by-own-events suite events n is conditions id from to kept ordered within at =
     subst (λ (t : Option Kept). FollowsIfThere kept own t) (sym (ap (λ (s : SuiteState). trace_of s.parts id) reached))
     (follows (trace_of (suite_along here rest).parts id) kept own reported later)
 
--- one event more
+-- one more event
 pub next-place : {A : Type 0} → (suite : SuiteState) (events : List (SuiteEvent A)) (place : ℕ) (event : SuiteEvent A)
     → slice_get events place ≡ Some event →
     take (suc place) events ≡ take place events ++ event ∷ []
@@ -407,7 +407,7 @@ next-place suite [] place event at = absurd (cc)
 next-place suite (first ∷ events) zero event at = let same : first ≡ event = cc in ap (λ e. e ∷ []) same
 next-place suite (first ∷ events) (suc place) event at = ap (λ l. first ∷ l) (next-place suite events place event at)
 
--- An event leaves the others as they were.
+-- An event does not change the other parts.
 left-one : {A : Type 0} → (suite : SuiteState) (event : SuiteEvent A) (id : PartId) (kept : Kept) → IsSuite suite
     → is_named suite event id ≡ false → trace_of suite.parts id ≡ Some kept →
     trace_of (suite_after suite event).parts id ≡ Some kept
@@ -427,7 +427,7 @@ leaves-others suite events n is conditions place event id kept within here unnam
     ∙ ap (λ (s : SuiteState). trace_of s.parts id) (suite_along-append suite (take place events) (event ∷ []))
     ∙ left-one before event id kept (at-place suite events place is all) unnamed at
 
--- Each event at a part is answered by the part's own history.
+-- The reply to each event at a part is that of the part's own history.
 
 get-middle : {T : Type 0} (xs ys : List T) (y : T) (n : ℕ) → length xs ≡ n → slice_get (xs ++ y ∷ ys) n ≡ Some y
 get-middle [] ys y zero same = refl
@@ -435,7 +435,7 @@ get-middle [] ys y (suc n) same = absurd (omega (arith, same))
 get-middle (x ∷ xs) ys y zero same = absurd (omega (arith, same))
 get-middle (x ∷ xs) ys y (suc n) same = get-middle xs ys y n (omega (arith, same))
 
--- the outputs of a part whose trace stands for a history
+-- the outputs of a part with a trace of this history
 out-by : {A : Type 0} → (id : PartId) (event : Event) (t : Option Kept) (kept : Kept) (own : List Event)
     → (if is_none t then Some fault.NoSuchPart else None) ≡ None → FollowsIfThere kept own t →
     let past = after (history_of kept) own in
@@ -484,7 +484,7 @@ replies-by-history {A = A} suite events n is conditions accepted id from place k
     below-of (y ∷ xs) zero x at = omega arith
     below-of (y ∷ xs) (suc k) x at = let b = below-of xs k x at in omega (arith, b)
 
--- An event of an accepted run is not refused where it stands.
+-- An event of an accepted run is not refused in its turn.
 pub accepted-at : {A : Type 0}
     → (suite : SuiteState) (events : List (SuiteEvent A)) (n place : ℕ) (event : SuiteEvent A) → place < n
     → slice_get events place ≡ Some event → AreAccepted suite (take n events) →

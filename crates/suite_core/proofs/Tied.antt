@@ -52,7 +52,7 @@ filter-append p (x ∷ xs) ys =
       | false ↦ filter-append p xs ys
     ]
 
--- Where a function of slots is one of their parts, so it is of all.
+-- If a function of slots agrees with one of their parts, the same is true of all slots.
 flat-map : (f : SlotState → SlotState) (g : Seen → Seen) (slots : List SlotState)
     → ((slot : SlotState) → seen_in (f slot) ≡ map g (seen_in slot)) →
     flat_map seen_in (map f slots) ≡ map g (flat_map seen_in slots)
@@ -62,9 +62,9 @@ flat-map f g (slot ∷ slots) each =
     ∙ ap (λ l. map g (seen_in slot) ++ l) (flat-map f g slots each) ∙
     sym (map-append g (seen_in slot) (flat_map seen_in slots))
 
--- The end of a part
+-- A part that ends
 
--- what is seen of a part after the end of one of this name
+-- what is seen of a part after the part with this name ended
 abbrev seen_end : PartId → Seen → Seen
 seen_end id part = record { id = part.id; ended = part.ended || is_part part.id id }
 
@@ -134,7 +134,7 @@ end-in-slot id slot =
         ∷ record { id = record { slot = slot.number; role = Log; life = life.number }; ended = b } ∷ [])
         (or-false life.has_ended)
 
--- A machine that is gone stays so.
+-- A machine that is gone stays gone.
 stays-ended : (kept : Kept) (event : Event) → has_ended kept ≡ true → has_ended (noted_if_taken kept event) ≡ true
 stays-ended kept event ended =
     let gone : phase_of (history_of kept) ≡ phase.Gone = is_gone-same (replay kept).phase ended in
@@ -153,7 +153,7 @@ stays-ended kept event ended =
 abbrev Has : PartId → Kept → PartState → Type 0
 Has id trace part = is_part part.id id ≡ true → part.trace ≡ trace
 
--- No two parts of one rank have one name.
+-- Rising parts have at most one part with a name, and so at most one trace for it.
 pub only-one : (parts : List PartState) (id : PartId) (trace : Kept) → AreRising parts → trace_of parts id ≡ Some trace
     → All (Has id trace) parts
 only-one [] id trace rising at = absurd (cc)
@@ -174,7 +174,7 @@ only-one (part ∷ parts) id trace rising at =
           (pairs-tail (λ (a : PartState) (b : PartState). rank a.id < rank b.id) part parts rising) at)
     ] refl at
 
--- where an event ends the part
+-- if an event ends the part
 seen-ends : (parts : List PartState) (id : PartId) (event : Event) (trace : Kept)
     → has_ended (noted_if_taken trace event) ≡ true → All (Has id trace) parts →
     map seen (parts_after id event parts) ≡ map (seen_end id) (map seen parts)
@@ -204,7 +204,7 @@ seen-ends (part ∷ parts) id event trace ends each =
           | false ↦ λ own. ap (λ e. record { id = part.id; ended = e }) (or-false (has_ended part.trace))
         ] refl
 
--- where it does not
+-- if it does not
 seen-stays : (parts : List PartState) (id : PartId) (event : Event) (trace : Kept)
     → has_ended (noted_if_taken trace event) ≡ false → All (Has id trace) parts →
     map seen (parts_after id event parts) ≡ map seen parts
@@ -231,7 +231,7 @@ seen-stays (part ∷ parts) id event trace stays each =
           | false ↦ λ own. refl
         ] refl
 
--- the parts where none has the name
+-- the parts, if none has the name
 nothing-after : (parts : List PartState) (id : PartId) (event : Event) → trace_of parts id ≡ None
     → parts_after id event parts ≡ parts
 nothing-after [] id event none = refl
@@ -243,7 +243,7 @@ nothing-after (part ∷ parts) id event none =
       | false ↦ λ none. ap (λ l. part ∷ l) (nothing-after parts id event none)
     ] none
 
--- An event at a part keeps parts and table tied.
+-- An event at a part keeps parts and table in agreement.
 pub tied-at : (table : TableState) (parts : List PartState) (id : PartId) (event : Event) → AreRising parts
     → AreTied table parts →
     AreTied (table_noted table id event (trace_of parts id)) (parts_after id event parts)
@@ -263,7 +263,7 @@ tied-at table parts id event rising tied =
 
 -- A scan
 
--- a slot's number is among those dropped exactly where the slot is dropped
+-- a slot's number is among the dropped ones exactly if the slot is dropped
 dropped-here : (slots : List SlotState) (rows : List Row) (slot : SlotState) → All (IsBefore slot) slots
     → list_any (λ n. slot.number == n) (drops slots rows) ≡ false
 dropped-here [] rows slot before = refl
@@ -304,7 +304,7 @@ dropped-reported (slot ∷ slots) rows rising =
           (λ k d w. ap (list_any (λ n. (get_or slots k d).number == n)) same ∙ later k d w)
     ] refl
 
--- whether what is seen stays where these slots are dropped
+-- whether what is seen stays, if these slots are dropped
 abbrev stays_seen : List ℕ → Seen → Bool
 stays_seen dropped part = not (is_among dropped part.id)
 
@@ -495,7 +495,7 @@ parts-stay table parts rows rising tied =
     seen-filter (drops table.slots rows) parts ∙ ap (filter (stays_seen (drops table.slots rows))) tied
     ∙ kept-flat (drops table.slots rows) rows table.slots (dropped-reported table.slots rows rising)
 
--- A scan keeps parts and table tied.
+-- A scan keeps parts and table in agreement.
 pub tied-scan : (suite : SuiteState) (rows : List Row) (label : Tai64n) → AllPairs IsBefore suite.table.slots
     → AreTied suite.table suite.parts →
     AreTied (scanned suite.table rows) (parts_scanned suite rows label)
@@ -522,7 +522,7 @@ tied-scan suite rows label rising tied =
     ∙ ap (λ l. flat_map seen_in (map (renewed again) (kept slots rows)) ++ l) starts_seen
     ∙ sym (flat-append seen_in (map (renewed again) (kept slots rows)) (new_slots slots next rows))
 
--- What the table says of numbers is so of parts.
+-- What the table says of numbers is true of the parts.
 
 abbrev Below : Seen → Seen → Type 0
 Below a b = rank a.id < rank b.id
@@ -540,7 +540,7 @@ slot-rises slot =
           (λ i j d b w. absurd (omega (arith, b, w)))
     ]
 
--- what holds of the parts of a slot
+-- a property of the parts of a slot
 all-in : (P : Seen → Type 0) (slot : SlotState) → ((part : SlotPart) → P (seen_life slot.number part))
     → All P (seen_in slot)
 all-in P slot each =

@@ -11,7 +11,7 @@ use Rattle.suite_core.specs.Parts.{PartState, is_part, is_place, trace_of, part_
 use Rattle.suite_core.specs.Suite.{changed}
 use Rattle.suite_core.proofs.Names.{is_part-same, is_part-self}
 
--- what an event at a part is to the trace of any part
+-- what an event at a part means for the trace of any part
 abbrev pub noted_where : Bool → Event → Kept → Kept
 noted_where is_own event kept = if is_own then noted_if_taken kept event else kept
 
@@ -59,7 +59,7 @@ trace_of-after (part ∷ parts) other id event =
     after-here part other id event (trace_of parts id) (trace_of (parts_after other event parts) id)
     (trace_of-after parts other id event)
 
--- None of these is the part.
+-- None of these is the part with this name.
 abbrev pub AreOthers : PartId → List PartState → Type 0
 AreOthers id parts = All (λ (part : PartState). is_part part.id id ≡ false) parts
 
@@ -91,7 +91,7 @@ first_of-none : (t : Option Kept) → first_of t None ≡ t
 first_of-none None = refl
 first_of-none (Some kept) = refl
 
--- whether a part's slot is one of these
+-- whether a part belongs to one of these slots
 abbrev pub is_among : List ℕ → PartId → Bool
 is_among slots id = list_any (λ slot. id.slot == slot) slots
 
@@ -133,7 +133,7 @@ trace_of-kept dropped (part ∷ parts) id =
 abbrev pub is_replaced : List PartState → PartId → Bool
 is_replaced news id = list_any (λ (new : PartState). is_place new.id id) news
 
--- What holds of a part and of those that restart holds of what stands there after.
+-- What is true of a part, and of those that restart, is true of the part at its place afterwards.
 pub restarted-one : (P : PartState → Type 0) (news : List PartState) (part : PartState) → P part → All P news
     → P (restarted_in news part)
 restarted-one P [] part here all = here
@@ -199,7 +199,7 @@ trace_of-restarted news (part ∷ parts) id others =
           ] refl)
     ] refl
 
--- What a scan does to the trace of a part, where those that it begins are others.
+-- What a scan does to the trace of a part, if those that it begins are other parts.
 pub trace_of-changed : (dropped : List ℕ) (started restarted parts : List PartState) (id : PartId)
     → AreOthers id started → AreOthers id restarted →
     trace_of (changed dropped started restarted parts) id

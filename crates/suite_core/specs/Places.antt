@@ -1,4 +1,4 @@
--- Where parts stand. No public contract speaks of it.
+-- The places of parts. No public contract names these definitions.
 use Rattle.std.specs.Prelude.{◌≡◌, ◌≢◌, ℕ, ◌+◌, ◌*◌, ◌<◌, ◌≤◌, Bool, true, List, map, length, slice_index_or}
 use Rattle.std.specs.List.{All, AllPairs, flat_map}
 use Rattle.scan_table.specs.declared.part.PartId.{PartId}
@@ -22,18 +22,18 @@ rank id = 2 * id.slot + rank_in id.role
 abbrev pub AreRising : List PartState → Type 0
 AreRising parts = AllPairs (λ (a : PartState) (b : PartState). rank a.id < rank b.id) parts
 
--- The parts before a place come before this part, and those from it on do not.
+-- The parts before a place come before this part. Those from the place on do not.
 pub record IsEdge (parts : List PartState) (id : PartId) (place : ℕ) : Type 0 where
   pub within : place ≤ length parts
   pub before : (k : ℕ) (d : PartState) → k < place → rank (slice_index_or parts k d).id < rank id
   pub after : (k : ℕ) (d : PartState) → place ≤ k → k < length parts → rank id ≤ rank (slice_index_or parts k d).id
 
--- At this place stands the part of this name.
+-- The part with this name is at this place.
 pub record IsPartAt (parts : List PartState) (id : PartId) (place : ℕ) : Type 0 where
   pub within : place < length parts
   pub here : (d : PartState) → is_part (slice_index_or parts place d).id id ≡ true
 
--- At this place stands the part of this slot and role.
+-- The part with this slot and role is at this place.
 pub record IsPlaceOf (parts : List PartState) (id : PartId) (place : ℕ) : Type 0 where
   pub within : place < length parts
   pub here : (d : PartState) → rank (slice_index_or parts place d).id ≡ rank id
@@ -41,7 +41,7 @@ pub record IsPlaceOf (parts : List PartState) (id : PartId) (place : ℕ) : Type
 abbrev pub HasNone : List PartState → PartId → Type 0
 HasNone parts id = All (λ (part : PartState). rank part.id ≢ rank id) parts
 
--- a part's name and whether it has ended, as the table has it and as its trace says it
+-- a part's name and whether the part has ended, as both the table and its trace have it
 pub record Seen : Type 0 where
   pub id : PartId
   pub ended : Bool
@@ -56,11 +56,11 @@ seen_life number part =
 abbrev pub seen_in : SlotState → List Seen
 seen_in slot = map (seen_life slot.number) (parts_of slot)
 
--- The parts are those of the table, and a part has ended in the table exactly where its machine is gone.
+-- The parts are those of the table, and a part has ended in the table exactly if its machine is gone.
 abbrev pub AreTied : TableState → List PartState → Type 0
 AreTied table parts = map seen parts ≡ flat_map seen_in table.slots
 
--- what holds of every suite
+-- the conditions on every suite
 pub record IsSuite (suite : SuiteState) : Type 0 where
   pub room : 0 < suite.capacity
   pub limit : suite.capacity ≤ 65536

@@ -25,7 +25,7 @@ use Rattle.suite_core.specs.declared.fault.StepFault.{StepFault}
 use Rattle.suite_core.specs.declared.fault.StepFault.TheVariants as fault
 use Rattle.suite_core.specs.Parts.{PartState, trace_of, has_ended, parts_after, restarted_in, is_of}
 
--- The table of slots, the parts in the order of their slots, each service before its logger, and the capacity of new
+-- The table of slots; the parts in the order of their slots, each service before its logger; and the capacity of new
 -- traces.
 pub record SuiteState : Type 0 where
   pub table : TableState
@@ -41,17 +41,17 @@ abbrev pub IsSuiteEvent : {A : Type 0} → SuiteEvent A → Type 0
 IsSuiteEvent (At id event) = IsEvent event
 IsSuiteEvent (Scan rows label) = ⊤
 
--- Why an event is refused, want of memory aside
+-- Why an event is refused, apart from a lack of memory
 
 abbrev pub fault_of_scan : Option ScanFault → Option StepFault
 fault_of_scan None = None
 fault_of_scan (Some why) = Some (fault.Scan why)
 
--- No event is taken at a part that is not there.
+-- An event at a part that is not there is refused.
 abbrev pub refusal_at : SuiteState → PartId → Option StepFault
 refusal_at suite id = if is_none (trace_of suite.parts id) then Some fault.NoSuchPart else None
 
--- No scan is taken that the table refuses.
+-- A scan that the table refuses is refused.
 abbrev pub refusal_of_scan : SuiteState → List Row → Option StepFault
 refusal_of_scan suite rows = fault_of_scan (scan_refusal suite.table rows)
 
@@ -59,19 +59,19 @@ abbrev pub refusal : {A : Type 0} → SuiteState → SuiteEvent A → Option Ste
 refusal suite (At id event) = refusal_at suite id
 refusal suite (Scan rows label) = refusal_of_scan suite rows
 
--- Memory is missed only where nothing else is wrong.
+-- Memory is reported as lacking only if nothing else is wrong.
 abbrev pub IsCause : Option StepFault → StepFault → Type 0
 IsCause refused fault.OutOfMemory = refused ≡ None
 IsCause refused why = refused ≡ Some why
 
 -- An event at a part
 
--- the table, where it is noted that the part has ended where the event ends it
+-- the table, with a note that the part has ended if the event ends it
 abbrev pub table_noted : TableState → PartId → Event → Option Kept → TableState
 table_noted table id event None = table
 table_noted table id event (Some kept) = if has_ended (noted_if_taken kept event) then after_end table id else table
 
--- what is answered at a part whose trace is this
+-- the result at a part with this trace
 abbrev pub outs_at : {A : Type 0} → PartId → Event → Option Kept → List (StepOut A)
 outs_at id event None = []
 outs_at id event (Some kept) =
@@ -92,16 +92,16 @@ abbrev pub says_down : Role → Option Row → Bool
 says_down role None = false
 says_down role (Some row) = is_down role row
 
--- what the row of a slot's name says
+-- the `down` in the row with a slot's name
 abbrev pub down_where : List Row → Role → Option SlotState → Bool
 down_where rows role None = false
 down_where rows role (Some slot) = says_down role (row_of rows slot.name)
 
--- a part with what the row of its service says
+-- a part, with the `down` from the row of its service
 abbrev pub beginning : List SlotState → List Row → PartId → Beginning
 beginning slots rows part = record { part = part; down = down_where rows part.role (slot_at slots part.slot) }
 
--- those of these parts: each is of a slot of the table after the scan
+-- those of these parts; each belongs to a slot of the table after the scan
 abbrev pub beginnings : TableState → List Row → List PartId → List Beginning
 beginnings table rows parts = map (beginning (scanned table rows).slots rows) parts
 
@@ -128,7 +128,7 @@ scan_starts table rows = beginnings table rows (starts table.slots table.next ro
 abbrev pub scan_restarts : TableState → List Row → List Beginning
 scan_restarts table rows = beginnings table rows (restarts table.slots table.next rows)
 
--- what a scan answers
+-- the result of a scan
 abbrev pub scan_out : {A : Type 0} → TableState → List Row → ScanOut A
 scan_out table rows =
     record {
@@ -141,7 +141,8 @@ scan_out table rows =
 abbrev pub scan_begun : TableState → List Row → Tai64n → List Begun
 scan_begun table rows label = map (begun_out label) (scan_starts table rows ++ scan_restarts table rows)
 
--- The parts after a scan: those of dropped slots are gone, what restarts takes its place, and what starts comes last.
+-- The parts after a scan: those of dropped slots are gone, each restarted part has its old place, and the started parts
+-- come last.
 abbrev pub changed : List ℕ → List PartState → List PartState → List PartState → List PartState
 changed dropped started restarted parts =
     map (restarted_in restarted) (filter (λ part. not (is_of dropped part)) parts) ++ started
@@ -158,7 +159,7 @@ parts_scanned suite rows label =
 abbrev pub outs_of_scan : {A : Type 0} → SuiteState → List Row → Tai64n → List (StepOut A)
 outs_of_scan suite rows label = out.Scanned (scan_out suite.table rows) (scan_begun suite.table rows label) ∷ []
 
--- what an event that is not refused is answered with
+-- the result of an event that is not refused
 abbrev pub outs_of : {A : Type 0} → SuiteState → SuiteEvent A → List (StepOut A)
 outs_of suite (At id event) = outs_at id event (trace_of suite.parts id)
 outs_of suite (Scan rows label) = outs_of_scan suite rows label

@@ -11,7 +11,7 @@ pub enum StepFault {
     /// There is no such part in the suite.
     NoSuchPart,
 
-    /// The table refuses the scan: its rows don't rise, or need more numbers than there are.
+    /// The table refuses the scan: its rows don't rise, or need more numbers than are left.
     Scan(ScanFault),
 
     /// The allocator refused memory.
@@ -43,7 +43,7 @@ impl From<AllocError> for StepFault {
     }
 }
 
-/// Why a run ended early: the place of the event, counted from 0, and why it was not taken.
+/// Why a run ended early: the place of the event, counted from 0, and the reason.
 #[derive(Clone, Copy, Debug, PartialEq, Eq)]
 pub struct SuiteFault {
     pub place: usize,

@@ -30,7 +30,7 @@ impl<A: Allocator> Model for Part<A> {
     ghost view = { λ part. record { id = part.id; trace = part.trace } };
 }
 
-/// Whether a role is the service itself, and not its logger.
+/// Returns whether a role is the service itself, and not its logger.
 fn is_main(role: Role) -> bool
     ensures { result ≡ Slots.is_main role }
 {
@@ -40,21 +40,21 @@ fn is_main(role: Role) -> bool
     }
 }
 
-/// Whether two names are of one part.
+/// Returns whether two names are those of one part.
 pub(crate) fn is_part(a: PartId, b: PartId) -> bool
     ensures { result ≡ is_part a b }
 {
     a.slot == b.slot && is_main(a.role) == is_main(b.role) && b.life == a.life
 }
 
-/// Whether a part comes before another: by slot, a service before its logger.
+/// Returns whether a part comes before another: by slot, a service before its logger.
 pub(crate) fn is_before(a: PartId, b: PartId) -> bool
     ensures { result ≡ nat_lt (rank a) (rank b) }
 {
     a.slot < b.slot || (a.slot == b.slot && is_main(a.role) && !is_main(b.role))
 }
 
-/// Whether two parts have one slot and role.
+/// Returns whether two parts have the same slot and role.
 pub(crate) fn is_place(a: PartId, b: PartId) -> bool
     ensures { result ≡ (rank a == rank b) }
 {
@@ -62,7 +62,7 @@ pub(crate) fn is_place(a: PartId, b: PartId) -> bool
 }
 
 impl<A: Allocator> Part<A> {
-    /// Begins a part, and says what that asks for. The trace takes all its memory now.
+    /// Begins a part. Returns it with what its beginning asks for. The trace takes all its memory now.
     pub(crate) fn begin(
         alloc: A,
         capacity: usize,
@@ -85,22 +85,21 @@ impl<A: Allocator> Part<A> {
         Ok((Part { id, trace }, begun))
     }
 
-    /// The part's name.
+    /// Returns the part's name.
     pub(crate) fn id(&self) -> PartId
         ensures { result ≡ self.now.id }
     {
         self.id
     }
 
-    /// The part's trace.
+    /// Returns the part's trace.
     pub(crate) fn trace(&self) -> &Trace<A>
         ensures { result.now ≡ self.now.trace }
     {
         &self.trace
     }
 
-    /// Takes an event at the part, whose name this is, or holds it. Answers what is answered, and whether the part has
-    /// ended then.
+    /// Takes an event at the part with this name, or holds it. Returns the result, and whether the part has then ended.
     pub(crate) fn take(&mut self, id: PartId, event: Event) -> (StepOut<A>, bool)
         requires { IsEvent event }
         ensures part { self.new ≡ record { id = self.old.id; trace = noted_if_taken self.old.trace event } }

@@ -1,4 +1,4 @@
-//! Where parts stand, and what is done at the place of one.
+//! The places of parts, and what is done at the place of one.
 ghost use Rattle.std.specs.Prelude.{◌≡◌, ◌<◌, ◌∷◌, [], None, length, map, MatchOption, IfSome, option_copied};
 ghost use Rattle.sup_core.specs.Rules.{IsEvent};
 ghost use Rattle.sup_trace.specs.Trace.{noted_if_taken};
@@ -13,7 +13,7 @@ use suite_lines::StepOut;
 use sup_core::Event;
 use sup_trace::Trace;
 
-/// The place of the first part that does not come before this one.
+/// Returns the place of the first part that does not come before this one.
 fn edge<A: Allocator>(parts: &[Part<A>], id: PartId) -> usize
     requires { AreRising parts.now }
     ensures { IsEdge parts.now id result }
@@ -31,7 +31,7 @@ fn edge<A: Allocator>(parts: &[Part<A>], id: PartId) -> usize
     low
 }
 
-/// The place of the part of a slot and role, in whatever life.
+/// Returns the place of the part with a slot and role, in any life.
 fn place_of<A: Allocator>(parts: &[Part<A>], id: PartId) -> Option<usize>
     requires { AreRising parts.now }
     ensures { MatchOption result (HasNone parts.now id) (λ place. IsPlaceOf parts.now id place) }
@@ -44,7 +44,7 @@ fn place_of<A: Allocator>(parts: &[Part<A>], id: PartId) -> Option<usize>
     }
 }
 
-/// The place of a part.
+/// Returns the place of a part.
 pub(crate) fn find<A: Allocator>(parts: &[Part<A>], id: PartId) -> Option<usize>
     requires { AreRising parts.now }
     ensures { MatchOption result (trace_of parts.now id ≡ None) (λ place. IsPartAt parts.now id place) }
@@ -55,7 +55,7 @@ pub(crate) fn find<A: Allocator>(parts: &[Part<A>], id: PartId) -> Option<usize>
     }
 }
 
-/// The trace of a part.
+/// Returns the trace of a part.
 pub(crate) fn trace_of<A: Allocator>(parts: &[Part<A>], id: PartId) -> Option<&Trace<A>>
     requires { AreRising parts.now }
     ensures { option_copied result ≡ trace_of parts.now id }
@@ -66,7 +66,7 @@ pub(crate) fn trace_of<A: Allocator>(parts: &[Part<A>], id: PartId) -> Option<&T
     }
 }
 
-/// Takes an event at a part, which stands at this place. Answers what is answered, and whether the part has ended then.
+/// Takes an event at the part at this place. Returns the result, and whether the part has then ended.
 pub(crate) fn take_event<A: Allocator>(
     parts: &mut [Part<A>],
     id: PartId,

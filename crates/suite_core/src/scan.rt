@@ -13,7 +13,7 @@ use std::alloc::{AllocError, Allocator};
 use suite_lines::Begun;
 use tai_status::Label;
 
-/// Whether a row says `down` of its service, or of the logger.
+/// Returns the `down` of a row: that of the service, or that of the logger.
 fn is_down<A: Allocator>(role: Role, row: &DirRow<A>) -> bool
     ensures { result ≡ is_down role row.now }
 {
@@ -23,7 +23,7 @@ fn is_down<A: Allocator>(role: Role, row: &DirRow<A>) -> bool
     }
 }
 
-/// Whether the row of a part's service says `down` of the part.
+/// Returns the `down` for a part from the row of its service.
 fn begins_down<A: Allocator + Clone>(table: &ScanTable<A>, rows: &[DirRow<A>], id: PartId) -> bool
     requires { AreRising rows.now }
     ensures { result ≡ (beginning table.now.slots rows.now id).down }
@@ -37,7 +37,7 @@ fn begins_down<A: Allocator + Clone>(table: &ScanTable<A>, rows: &[DirRow<A>], i
     }
 }
 
-/// Begins parts that a scan starts or restarts, and adds what their beginnings ask for.
+/// Begins the parts that a scan starts or restarts, and adds what their beginnings ask for.
 pub(crate) fn begin_parts<A: Allocator + Clone>(
     alloc: &A,
     capacity: usize,
@@ -84,7 +84,7 @@ fn restart_in<A: Allocator>(parts: &mut Vec<Part<A>, A>, news: Vec<Part<A>, A>)
     restart_all(parts, news);
 }
 
-/// Drops the parts of slots that go, puts those that restart into their places, and those that start at the end.
+/// Drops the parts of dropped slots, puts restarted parts into their places, and adds started parts at the end.
 pub(crate) fn change<A: Allocator>(
     parts: &mut Vec<Part<A>, A>,
     dropped: &[u64],

@@ -34,7 +34,7 @@ use tai_status::Label;
 pub struct Suite<A: Allocator + Clone = Global> {
     alloc: A,
     table: ScanTable<A>,
-    /// By rising slot, each service before its logger.
+    /// The parts by rising slot, each service before its logger.
     parts: Vec<Part<A>, A>,
     capacity: usize,
 }
@@ -54,7 +54,7 @@ impl<A: Allocator + Clone> Model for Suite<A> {
     }) };
 }
 
-/// What a scan is to do, for which all memory is taken but the room in the suite.
+/// What a scan does. All memory for it is taken, except the room in the suite.
 #[derive(Drop)]
 struct Planned<A: Allocator + Clone = Global> {
     /// The table after the scan.
@@ -65,7 +65,7 @@ struct Planned<A: Allocator + Clone = Global> {
     begun: Vec<Begun, A>,
 }
 
-/// Takes an event at a part, which stands at this place of a vector.
+/// Takes an event at the part at this place of a vector.
 fn take_event_in<A: Allocator>(
     parts: &mut Vec<Part<A>, A>,
     id: PartId,
@@ -98,7 +98,7 @@ fn reserve<A: Allocator>(
     parts.reserve(count)
 }
 
-/// Puts an output behind others, for which there is room.
+/// Adds an output after others. There is room for it.
 fn put<A: Allocator>(out: &mut Vec<StepOut<A>, A>, answer: StepOut<A>)
     requires { vec_len out.old < vec_capacity out.old }
     ensures { out.new.items ≡ out.old.items ++ answer ∷ [] }
@@ -106,7 +106,7 @@ fn put<A: Allocator>(out: &mut Vec<StepOut<A>, A>, answer: StepOut<A>)
     let _ = out.push(answer);
 }
 
-/// Notes a part's end in a table, where it has ended.
+/// Notes in a table that a part has ended, if it has.
 fn note_end<A: Allocator + Clone>(table: &mut ScanTable<A>, id: PartId, ended: bool)
     ensures { table.new ≡ (if ended then after_end table.old id else table.old) }
 {
@@ -115,7 +115,7 @@ fn note_end<A: Allocator + Clone>(table: &mut ScanTable<A>, id: PartId, ended: b
     }
 }
 
-/// Scans, where the scan is not refused but for want of memory.
+/// Scans. The caller has ruled out each refusal except a lack of memory.
 fn scan<A: Allocator + Clone>(
     table: &mut ScanTable<A>,
     rows: &[DirRow<A>],
@@ -130,8 +130,8 @@ fn scan<A: Allocator + Clone>(
 }
 
 impl<A: Allocator + Clone> Suite<A> {
-    /// A suite without parts, whose first number is this one, and whose traces keep as many events as the capacity
-    /// says, 1 to 65,536.
+    /// Returns a suite without parts. This is its first number. Its traces keep as many events as the capacity says, 1
+    /// to 65,536.
     pub fn new(alloc: A, next: u64, trace_capacity: usize) -> Result<Suite<A>, AllocError>
         requires room { 0 < trace_capacity }
         requires limit { trace_capacity ≤ 65536 }
@@ -145,14 +145,14 @@ impl<A: Allocator + Clone> Suite<A> {
         })
     }
 
-    /// The trace of a part, where it is there.
+    /// Returns the trace of a part, if the part is there.
     pub fn trace(&self, part: PartId) -> Option<&Trace<A>>
         ensures { option_copied result ≡ trace_of self.now.parts part }
     {
         trace_of(&self.parts, part)
     }
 
-    /// The machine of a part, where it is there.
+    /// Returns the machine of a part, if the part is there.
     pub fn machine(&self, part: PartId) -> Option<Machine>
         ensures { result ≡ option_map replay (trace_of self.now.parts part) }
     {
@@ -188,7 +188,7 @@ impl<A: Allocator + Clone> Suite<A> {
         Ok(())
     }
 
-    /// What a scan that is not refused is to do.
+    /// Plans what a scan that is not refused does.
     fn plan(&self, rows: &[DirRow<A>], label: Label) -> Result<Planned<A>, AllocError>
         requires rising { Scan.AreRising rows.now }
         ensures table { IfOk result (λ plan. plan.table ≡ scanned self.now.table rows.now) }
@@ -270,10 +270,10 @@ impl<A: Allocator + Clone> Suite<A> {
         Ok(())
     }
 
-    /// Takes one event, and puts what it is answered with behind `out`.
+    /// Takes one event, and adds its result to `out`.
     ///
-    /// At a fault nothing changed. `NoSuchPart` comes exactly where the event is at a part that is not there, `Scan`
-    /// exactly where the table refuses the scan, and `OutOfMemory` only where neither is so.
+    /// After a fault nothing has changed. `NoSuchPart` is returned exactly if the event is at a part that is not there.
+    /// `Scan` is returned exactly if the table refuses the scan. `OutOfMemory` is returned only if neither is the case.
     pub fn step(
         &mut self,
         event: &SuiteEvent<A>,
@@ -297,10 +297,10 @@ impl<A: Allocator + Clone> Suite<A> {
         }
     }
 
-    /// Takes the events in order, and puts one output for each behind `out`.
+    /// Takes the events in order, and adds one output for each to `out`.
     ///
-    /// At a fault the events before the place that it names stand, with their outputs; the event there and those after
-    /// it did nothing.
+    /// After a fault, the events before the place that it names are taken, with their outputs. The event there and
+    /// those after it did nothing.
     pub fn run(
         &mut self,
         events: &[SuiteEvent<A>],

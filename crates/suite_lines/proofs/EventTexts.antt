@@ -1,4 +1,4 @@
--- Suite events and their lines: what is reported is read, and what is read is reported so.
+-- Suite events and their lines: what is written is read, and what is read is written so.
 use Rattle.std.proofs.Common.{◌≡◌, ℕ, ◌==◌, true, false, List, [], ◌∷◌, ◌++◌, map, Option, Some, None, Result, Ok, Err}
 use Rattle.std.proofs.Common.{refl, sym, ap, ◌∙◌, arith, decimal, codes, subst}
 use Rattle.std.specs.Prelude.{IfSome, IfOk, MatchResult, is_some, if◌then◌else◌, bytes_eq}
@@ -35,7 +35,7 @@ use Rattle.suite_lines.specs.Fields.{are_rows}
 use Rattle.suite_lines.proofs.PartTexts.{part_from-part_text, part_text-part_from}
 use Rattle.suite_lines.proofs.RowTexts.{rows-solid, rows-read, SpellsRows, rows-reported}
 
--- What is reported is read.
+-- What is written is read.
 
 role-solid : (role : Role) → is_solid (role_name role) ≡ true
 role-solid Main = refl
@@ -49,7 +49,7 @@ part_text-solid part =
     joined-solid (decimal part.slot) _ (decimal-solid part.slot)
     (joined-solid (role_name part.role) (decimal part.life) (role-solid part.role) (decimal-solid part.life))
 
--- the line of an event at a part, as its word, the part and the event's line
+-- the line of an event at a part: its word, the part and the event's line
 at_line : (A : Type 0) (part : PartId) (event : Event)
     → suite_event_text {A = A} (At part event) ≡ codes "at" ++ 32 ∷ (part_text part ++ 32 ∷ event_text event)
 at_line A part (Byte byte) = refl
@@ -93,7 +93,7 @@ pub suite_event_from-suite_event_text : {A : Type 0} (event : SuiteEvent A) → 
     → suite_event_from (fields (suite_event_text event)) ≡ Ok event
 suite_event_from-suite_event_text event h = ap suite_event_from (line_fields event h) ∙ fields_read event h
 
--- What is read is reported so.
+-- What is read is written so.
 
 record SpellsEvent {A : Type 0} (parts : List (List ℕ)) (event : SuiteEvent A) : Type 0 where
   so : IsSpellable event
@@ -165,7 +165,7 @@ fields_spelt (word ∷ rest) event h =
     (choose word (codes "at") _ _ event (at_parts word rest event)
     (λ (none : Err why.UnknownEvent ≡ Ok event). cc none)) h
 
--- What a line is read as has that line.
+-- The event that a line is read as has that line.
 pub suite_event_text-suite_event_from : {A : Type 0} (line : List ℕ) (event : SuiteEvent A)
     → suite_event_from (fields line) ≡ Ok event
     → IsSpellable event × (line ≡ suite_event_text event)
@@ -173,7 +173,7 @@ suite_event_text-suite_event_from line event h =
     let reported = fields_spelt (fields line) event h in
     (reported.so, sym (join_with_byte-slice_split 32 line) ∙ ap (join_with_byte 32) reported.is)
 
--- the fields of an event at a part, where its line is left
+-- the fields of an event at a part, if its line is left
 pub at_from_line : {A : Type 0} (text line : List ℕ)
     → at_from {A = A} (text ∷ fields line) ≡ at_of (part_from (dotted text)) (event_from (fields line))
 at_from_line {A} text line = more (fields line) (split_some_part (λ byte. byte == 32) line)
@@ -183,16 +183,16 @@ at_from_line {A} text line = more (fields line) (split_some_part (λ byte. byte 
     more [] some = absurd (some refl)
     more (word ∷ rest) some = refl
 
--- What is answered
+-- Results
 
--- a fault, and want of memory at a scan, as they are answered
+-- faults, and a lack of memory at a scan, as results
 pub IsRead-refused : {A : Type 0} (reported : Result (SuiteEvent A) EventFault)
     (answer : Result (SuiteEvent A) SuiteLineFault) (why : EventFault)
     → reported ≡ Err why → answer ≡ Err (line_fault why) → IsRead reported answer
 IsRead-refused {A} reported answer why is answered =
     subst (λ (r : Result (SuiteEvent A) EventFault). IsRead r answer) (sym is) answered
 
--- the first fault of an event at a part: the part's, then the event's
+-- the first fault of an event at a part: first that of the part, then that of the event
 pub part_refused : {A : Type 0} (parts : List (List ℕ)) (text line : List ℕ) (why : EventFault)
     → parts ≡ text ∷ fields line
     → Err why ≡ part_from (dotted text) → at_from {A = A} parts ≡ Err why

@@ -1,4 +1,4 @@
--- A part's text: what is reported is read, and what is read is reported so.
+-- A part's text: what is written is read, and what is read is written so.
 use Rattle.std.proofs.Common.{◌≡◌, ℕ, zero, suc, ◌^◌, ◌<◌, ◌==◌, ◌&&◌, ◌/◌, ◌%◌, nat_lt, Bool, true, false, not, List}
 use Rattle.std.proofs.Common.{[], ◌∷◌, Option, Some, None, Ok, Err, refl, sym, ap, ◌∙◌, arith, decimal, codes, subst}
 use Rattle.std.specs.Prelude.{IfSome, if◌then◌else◌, bytes_eq}
@@ -33,7 +33,7 @@ pub record SpellsNumber (text : List ℕ) (number : ℕ) : Type 0 where
   pub below : number < 2 ^ 64
   pub is : text ≡ decimal number
 
--- an answer that is tested
+-- a result that is tested
 tested : {A : Type 0} (R : A → Type 0) (test : Bool) (x : A) → (test ≡ true → R x)
     → IfSome (if test then Some x else None) R
 tested R test x h =
@@ -57,7 +57,7 @@ number_of_text-only text number h =
     let same = (bytes_eq-Decides (decimal number) text).1 (sym h.is) in
     rw (value, lt-test number (2 ^ 64) h.below, same) refl
 
--- What reads the decimal text of each number, and nothing else, reads numbers.
+-- A reader that reads the decimal text of each number, and nothing else, reads numbers.
 pub number_of_text-exact : (text : List ℕ) (r : Option ℕ) → IfSome r (λ n. n < 2 ^ 64)
     → IfSome r (λ n. text ≡ decimal n)
     → ((n : ℕ) → n < 2 ^ 64 → text ≡ decimal n → r ≡ Some n) → r ≡ number_of_text text
@@ -160,7 +160,7 @@ fields_spelt (a ∷ b ∷ c ∷ []) part h =
     (number_of_text-found c) h
 fields_spelt (a ∷ b ∷ c ∷ d ∷ rest) part h = cc h
 
--- What a text is read as has that text.
+-- The part that a text is read as has that text.
 pub part_text-part_from : (text : List ℕ) (part : PartId) → part_from (dotted text) ≡ Ok part
     → IsPart part × (text ≡ part_text part)
 part_text-part_from text part h =

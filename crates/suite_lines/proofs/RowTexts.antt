@@ -1,4 +1,4 @@
--- Rows and their texts: what is reported is read, and what is read is reported so.
+-- Rows and their texts: what is written is read, and what is read is written so.
 use Rattle.std.proofs.Common.{◌≡◌, ℕ, ◌<◌, ◌==◌, length, ◌&&◌, nat_lt, Bool, true, false, List, [], ◌∷◌, ◌++◌, map}
 use Rattle.std.proofs.Common.{Option, Some, None, Result, Ok, Err, refl, sym, ap, ◌∙◌, arith, append_assoc, subst}
 use Rattle.std.specs.Prelude.{if◌then◌else◌, is_some, option_map, MatchOption, MatchResult}
@@ -92,7 +92,7 @@ row_tested dir log down log_down colon name h =
     let at = colon_spelt colon flags.1 in
     record { name = front.1; is = cc (bytes, d, l, n, m, at) }
 
--- What a text is read as has that text.
+-- The row that a text is read as has that text.
 pub row_of_text-reported : (text : List ℕ) (row : Row) → row_of_text text ≡ Some row → SpellsRow text row
 row_of_text-reported [] row h = cc h
 row_of_text-reported (a ∷ []) row h = cc h
@@ -180,7 +180,7 @@ rows-reported (text ∷ texts) rows h =
     onto_spelt text texts (row_of_text text) (rows_of_texts texts) rows (row_of_text-reported text)
     (rows-reported texts) h
 
--- One field more
+-- One more field
 
 pub are_rows-more : (text : List ℕ) (texts : List (List ℕ)) (row : Row) → row_of_text text ≡ Some row
     → are_rows (text ∷ texts) ≡ are_rows texts
@@ -223,7 +223,7 @@ rows_further left texts text row own done new all is read owned put h =
     ∙ sym (rows-more done text texts row read)
     ∙ ap (λ (fields : List (List ℕ)). option_map (λ later. done ++ later) (rows_of_texts fields)) (sym is) ∙ h
 
--- A row's name is text.
+-- A row's name is valid text.
 
 graphic_ascii : (byte : ℕ) → is_graphic byte ≡ true → byte < 128
 graphic_ascii byte h = grind (arith, nat_tests)

@@ -1,4 +1,4 @@
--- Lines as they are made, of texts that are shown.
+-- Lines as the code makes them, from texts that are shown.
 use Rattle.std.proofs.Common.{◌≡◌, ℕ, List, ◌++◌, Result, Ok, Err, codes, decimal, append_assoc, ap, ◌∙◌}
 use Rattle.std.specs.Prelude.{IfOk}
 

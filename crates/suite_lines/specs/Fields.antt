@@ -1,9 +1,9 @@
--- The parts of a line, as reading goes through it: words of private functions alone. What reading a line answers is
--- said in specs/Reading and specs/Answers.
+-- The parts of a line, in the order in which they are read. Only private functions use these words. The result of
+-- reading a line is defined in specs/Reading and specs/Answers.
 use Rattle.std.specs.Prelude.{Bool, ℕ, List, [], Option, Some, None, is_some}
 use Rattle.suite_lines.specs.Reading.{dotted, rows_of_texts}
 
--- the fields after a dot, where there is one
+-- the fields after a dot, if there is one
 abbrev pub dotted_after : Option (List ℕ) → List (List ℕ)
 dotted_after None = []
 dotted_after (Some rest) = dotted rest

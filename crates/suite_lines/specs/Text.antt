@@ -1,5 +1,5 @@
--- The texts of a suite's events, and of what its steps give. The forms of a part, of a row and of the lines are this
--- project's own.
+-- The texts of a suite's events, and of the results of its steps. The forms of a part, of a row and of the lines are
+-- this project's own.
 use Rattle.std.specs.Prelude.{◌≡◌, ℕ, ◌<◌, ◌^◌, ◌&&◌, nat_le, Bool, true, false, if◌then◌else◌, List, [], ◌∷◌, ◌++◌}
 use Rattle.std.specs.Prelude.{map, length, codes, decimal}
 use Rattle.std.specs.List.{AllByRecursion, list_all, join_with_byte}
@@ -28,13 +28,13 @@ role_name Log = codes "log"
 abbrev pub part_fields : PartId → List (List ℕ)
 part_fields part = decimal part.slot ∷ role_name part.role ∷ decimal part.life ∷ []
 
--- the text of a part: its fields, parted by one dot
+-- the text of a part: its fields, separated by one dot
 abbrev pub part_text : PartId → List ℕ
 part_text part = join_with_byte 46 (part_fields part)
 
 -- Rows
 
--- a flag that is set is its letter, and one that is not is `-`
+-- a set flag is its letter, and an unset one is `-`
 abbrev pub flag_text : Bool → List ℕ → List ℕ
 flag_text set letter = if set then letter else codes "-"
 
@@ -52,7 +52,7 @@ row_text row = flags_text row ++ codes ":" ++ row.name
 abbrev pub is_graphic : ℕ → Bool
 is_graphic byte = nat_le 0x21 byte && nat_le byte 0x7e
 
--- A name that a line can spell has at least one byte, all from `!` to `~`.
+-- A name that a line can spell has at least one byte, and all its bytes are from `!` to `~`.
 abbrev pub is_row_name : List ℕ → Bool
 is_row_name [] = false
 is_row_name (byte ∷ bytes) = list_all is_graphic (byte ∷ bytes)
@@ -64,7 +64,7 @@ pub record IsPart (part : PartId) : Type 0 where
   pub slot : part.slot < 2 ^ 64
   pub life : part.life < 2 ^ 64
 
--- A line can spell the event: its numbers are in range, and its names are such as a line can spell.
+-- A line can spell the event: its numbers are in range, and a line can spell its names.
 abbrev pub IsSpellable : {A : Type 0} → SuiteEvent A → Type 0
 IsSpellable (Scan rows label) = IsLabel label × AllByRecursion (λ (row : Row). is_row_name row.name ≡ true) rows
 IsSpellable (At part event) = IsPart part × IsInRange event
@@ -74,11 +74,11 @@ abbrev pub suite_event_fields : {A : Type 0} → SuiteEvent A → List (List ℕ
 suite_event_fields (Scan rows label) = codes "scan" ∷ label_text label ∷ map row_text rows
 suite_event_fields (At part event) = codes "at" ∷ part_text part ∷ event_fields event
 
--- the line of a suite event: its fields, parted by one space
+-- the line of a suite event: its fields, separated by one space
 abbrev pub suite_event_text : {A : Type 0} → SuiteEvent A → List ℕ
 suite_event_text event = join_with_byte 32 (suite_event_fields event)
 
--- What a step gives
+-- The result of a step
 
 -- how many parts a scan started and restarted, how many slots it dropped, and how many names it refused
 abbrev pub counts_text : {A : Type 0} → ScanOut A → List ℕ
@@ -88,15 +88,15 @@ counts_text scanned =
     ++ decimal (length scanned.drops) ++ codes " dropped, "
     ++ decimal (length scanned.refused) ++ codes " refused"
 
--- a slot that went
+-- a slot that was dropped
 abbrev pub drop_text : ℕ → List ℕ
 drop_text slot = decimal slot ++ codes " dropped"
 
--- a part, and what is answered for it
+-- a part, and its answer
 abbrev pub part_answer : PartId → List ℕ → List ℕ
 part_answer part answer = part_text part ++ codes " " ++ answer
 
--- a part that a scan began, as an event that was taken
+-- a part that a scan began, in the form of an event that was taken
 abbrev pub begun_text : Begun → List ℕ
 begun_text begun = part_answer begun.part (answer_text (Took begun.asks) begun.phase)
 
@@ -104,7 +104,7 @@ begun_text begun = part_answer begun.part (answer_text (Took begun.asks) begun.p
 abbrev pub refused_text : List ℕ → List ℕ
 refused_text name = name ++ codes " refused TooMany"
 
--- the lines of what a step gives
+-- the lines of a step's result
 abbrev pub step_lines : {A : Type 0} → StepOut A → List (List ℕ)
 step_lines (out.Scanned scanned begun) =
     (counts_text scanned ∷ []) ++ map drop_text scanned.drops ++ map begun_text begun

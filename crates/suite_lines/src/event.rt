@@ -7,7 +7,7 @@ use std::marker::Model;
 use sup_core::Event;
 use tai_status::Label;
 
-/// What a folder held when it was scanned.
+/// The entries of a folder when it was scanned.
 #[derive(Drop)]
 pub struct Rows<A: Allocator = Global> {
     rows: Vec<DirRow<A>, A>,
@@ -23,7 +23,7 @@ impl<A: Allocator> Model for Rows<A> {
 }
 
 impl<A: Allocator> Rows<A> {
-    /// The list of these rows.
+    /// Returns the list of these rows.
     pub fn from_vec(rows: Vec<DirRow<A>, A>) -> Rows<A>
         ensures { result ≡ rows.items }
     {
@@ -38,7 +38,7 @@ impl<A: Allocator> Rows<A> {
         rows
     }
 
-    /// The rows, in order.
+    /// Returns the rows, in order.
     pub fn as_slice(&self) -> &[DirRow<A>]
         ensures { result.now ≡ self.now }
     {
@@ -49,7 +49,7 @@ impl<A: Allocator> Rows<A> {
 /// What happens to a suite.
 #[derive(Drop)]
 pub enum SuiteEvent<A: Allocator = Global> {
-    /// The folder was scanned, at this label.
+    /// The folder was scanned, at this time.
     Scan(Rows<A>, Label),
     /// Something happened at a part.
     At(PartId, Event),

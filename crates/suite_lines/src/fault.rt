@@ -7,22 +7,22 @@ use std::error::Error;
 use std::fmt;
 use sup_core::EventFault;
 
-/// Why a line is the text of no event of a suite. The first of these that applies is reported.
+/// Why a line spells no event of a suite. The first one that applies is reported.
 #[derive(Clone, Copy, Debug, PartialEq, Eq)]
 pub enum SuiteLineFault {
-    /// A first word that is not known: the line's, or that of its event at a part.
+    /// A first word is not known: that of the line, or that of its event at a part.
     UnknownEvent,
 
-    /// The number of fields is wrong, or a field that is neither a number nor a label.
+    /// The number of fields is wrong, or a field that should be no number and no label.
     Line,
 
-    /// A number is wrong: a slot's, a life's or a process's.
+    /// A number is wrong: that of a slot, a life or a process.
     Number,
 
     /// A label is wrong.
     Label,
 
-    /// The allocator refused the memory for the rows of a scan whose line is right.
+    /// The allocator refused memory for the rows of a scan with a valid line.
     OutOfMemory,
 }
 

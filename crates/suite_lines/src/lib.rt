@@ -1,4 +1,4 @@
-//! What happens to a suite of services, what each step of it gives, and the lines that spell both.
+//! What happens to a suite of services, the results of its steps, and the lines that spell both.
 #![tactic(auto)]
 
 mod event;

@@ -1,4 +1,4 @@
-//! What a step of a suite gives.
+//! The result of a step of a suite.
 ghost use Rattle.std.specs.Prelude.{◌≡◌};
 
 use scan_table::{PartId, ScanOut};
@@ -30,14 +30,14 @@ impl<A: Allocator> Model for Begins<A> {
 }
 
 impl<A: Allocator> Begins<A> {
-    /// The list of these.
+    /// Returns the list of these.
     pub fn from_vec(begins: Vec<Begun, A>) -> Begins<A>
         ensures { result ≡ begins.items }
     {
         Begins { begins }
     }
 
-    /// The parts, in order.
+    /// Returns the parts, in order.
     pub fn as_slice(&self) -> &[Begun]
         ensures { result.now ≡ self.now }
     {
@@ -45,15 +45,15 @@ impl<A: Allocator> Begins<A> {
     }
 }
 
-/// What a step of a suite gives.
+/// The result of a step of a suite.
 #[derive(Drop)]
 pub enum StepOut<A: Allocator = Global> {
-    /// What a scan did, and the parts that it began: those that start, then those that restart.
+    /// What a scan did, and the parts that it began: first those that start, then those that restart.
     Scanned {
         out: ScanOut<A>,
         begun: Begins<A>,
     },
-    /// What an event at a part is answered with, and the phase after it.
+    /// The reply to an event at a part, and the phase after it.
     At {
         part: PartId,
         reply: Reply,

@@ -12,7 +12,7 @@ use itoa::Buffer;
 use scan_table::{PartId, Role};
 use sup_core::{EventFault, read_number};
 
-/// The name of a role.
+/// Returns the name of a role.
 fn role_name(role: Role) -> &'static str
     ensures name { result.now ≡ role_name role }
     ensures short { length result.now ≤ 4 }
@@ -33,7 +33,7 @@ fn push_number(out: &mut ArrayString<48>, number: u64)
     out.push_str(buffer.format(number));
 }
 
-/// The text of a part: its slot, `main` or `log`, and its life, parted by dots. It has at most 46 bytes.
+/// Returns the text of a part: its slot, `main` or `log`, and its life, separated by dots. It has at most 46 bytes.
 pub fn part_text(part: PartId) -> ArrayString<48>
     ensures text { result.bytes ≡ part_text part }
     ensures short { length result.bytes ≤ 46 }
@@ -47,7 +47,7 @@ pub fn part_text(part: PartId) -> ArrayString<48>
     out
 }
 
-/// Where the first dot is.
+/// Returns the place of the first dot.
 fn dot_at(text: &[u8]) -> Option<usize>
     ensures at { result ≡ position (λ byte. byte == 46) text.now }
     ensures below { IfSome result (λ at. at < length text.now) }
@@ -55,7 +55,7 @@ fn dot_at(text: &[u8]) -> Option<usize>
     text.iter().position(|byte| *byte == b'.')
 }
 
-/// The first field of a part's text, and what comes after its dot, if there is one.
+/// Splits a part's text into its first field and what comes after its dot, if there is one.
 #[tactic(auto, using(sup_core::proofs::Fields::split_none, sup_core::proofs::Fields::split_some))]
 fn split_dot(text: &[u8]) -> (&[u8], Option<&[u8]>)
     ensures { dotted text.now ≡ result.0.now ∷ dotted_after (option_copied result.1) }
@@ -66,7 +66,7 @@ fn split_dot(text: &[u8]) -> (&[u8], Option<&[u8]>)
     }
 }
 
-/// The three fields of a part's text.
+/// Splits a part's text into its three fields.
 #[tactic(auto, using(crate::proofs::PartTexts::part_from_many))]
 fn part_fields(text: &[u8]) -> Option<(&[u8], &[u8], &[u8])>
     ensures { MatchOption result (IsNoPart text.now)
@@ -84,7 +84,7 @@ fn part_fields(text: &[u8]) -> Option<(&[u8], &[u8], &[u8])>
     Some((slot, role, life))
 }
 
-/// The role of this name.
+/// Reads the role with this name.
 fn read_role(name: &[u8]) -> Option<Role>
     ensures { result ≡ role_of_text name.now }
 {
@@ -95,14 +95,14 @@ fn read_role(name: &[u8]) -> Option<Role>
     }
 }
 
-/// The number whose decimal text this is.
+/// Reads the decimal text of a number.
 fn number_of(text: &[u8]) -> Option<u64>
     ensures { result ≡ number_of_text text.now }
 {
     read_number(text)
 }
 
-/// The part whose text this is.
+/// Reads the text of a part.
 pub(crate) fn read_part(text: &[u8]) -> Result<PartId, EventFault>
     ensures { result ≡ part_from (dotted text.now) }
 {

@@ -16,7 +16,7 @@ use crate::row::{own_row, read_row};
 use std::alloc::{AllocError, Allocator};
 use sup_core::{read_event, read_label, split_field};
 
-/// Whether each field left is the text of a row.
+/// Returns whether each field left is the text of a row.
 fn are_rows(rest: Option<&[u8]>) -> bool
     ensures { result ≡ are_rows (fields_after (option_copied rest.entry)) }
 {
@@ -31,7 +31,7 @@ fn are_rows(rest: Option<&[u8]>) -> bool
     true
 }
 
-/// The rows of the fields left, of which each is the text of a row.
+/// Reads the rows of the fields left. Each field is the text of a row.
 fn own_rows<A: Allocator + Clone>(alloc: A, rest: Option<&[u8]>) -> Result<Rows<A>, AllocError>
     requires { are_rows (fields_after (option_copied rest)) ≡ true }
     ensures { IfOk result (λ rows. rows_of_texts (fields_after (option_copied rest.entry)) ≡ Some rows) }
@@ -47,7 +47,7 @@ fn own_rows<A: Allocator + Clone>(alloc: A, rest: Option<&[u8]>) -> Result<Rows<
     Ok(Rows::from_vec(rows))
 }
 
-/// The scan of the fields left: a label, and rows.
+/// Reads the scan from the fields left: a label, and rows.
 fn read_scan<A: Allocator + Clone>(
     alloc: A,
     rest: Option<&[u8]>,
@@ -62,7 +62,7 @@ fn read_scan<A: Allocator + Clone>(
     Ok(SuiteEvent::Scan(own_rows(alloc, rest)?, label))
 }
 
-/// The event at a part of the fields left: the part, and the event's line.
+/// Reads the event at a part from the fields left: the part, and the event's line.
 #[tactic(auto, using(crate::proofs::EventTexts::at_from_line))]
 fn read_at<A: Allocator>(rest: Option<&[u8]>) -> Result<SuiteEvent<A>, SuiteLineFault>
     ensures { IsRead (at_from (fields_after (option_copied rest.entry))) result }
@@ -74,7 +74,7 @@ fn read_at<A: Allocator>(rest: Option<&[u8]>) -> Result<SuiteEvent<A>, SuiteLine
     Ok(SuiteEvent::At(part, event))
 }
 
-/// The event of a line, by its fields.
+/// Reads the event of a line, by its fields.
 fn parse_suite_event<A: Allocator + Clone>(
     alloc: A,
     line: &[u8],
@@ -89,20 +89,21 @@ fn parse_suite_event<A: Allocator + Clone>(
     }
 }
 
-/// The event of a suite that a line says, without its newline. Fields are parted by one space:
+/// Reads an event of a suite from its line, without the newline. Fields are separated by one space:
 ///
 /// | line | event |
 /// |---|---|
-/// | `scan LABEL ROW ..` | the folder was scanned, and held these rows, of which there may be none |
-/// | `at PART EVENT` | at this part happened what the line EVENT spells, as `sup_core::read_event` reads it |
+/// | `scan LABEL ROW ..` | the folder was scanned, and had these rows, perhaps none |
+/// | `at PART EVENT` | the event that the line EVENT spells happened at this part; `sup_core::read_event` reads it |
 ///
-/// PART is a slot's number, `main` or `log`, and a life's number, parted by dots. ROW is the four flags `d` (a
-/// directory), `l` (has a log), `n` (has a file `down`) and `m` (its log has one), each its letter or `-`, then a
-/// colon, and a name of at least one byte, all from `!` to `~`.
+/// PART is a slot's number, `main` or `log`, and a life's number, separated by dots. ROW is four flags, a colon and a
+/// name. The flags are `d` (a directory), `l` (has a log), `n` (has a file `down`) and `m` (its log has one), each its
+/// letter or `-`. The name has at least one byte, and all its bytes are from `!` to `~`.
 ///
-/// The first fault is reported: another first word; for a scan no field of a label, a wrong label, a field that is no
-/// row's text; at a part fewer than three fields or no part, then a slot or a life that is no number of 64 bits, then
-/// the faults of the event's line. Memory is asked for once a scan's line is known to be right.
+/// The first fault is reported. The first word comes first. The faults of a scan are, in order: no field for a label, a
+/// wrong label, and a field that is no row's text. Those at a part are: fewer than three fields or no part; a slot or a
+/// life that is no number of 64 bits; and the faults of the event's line. Memory is taken after a scan's line is known
+/// to be right.
 pub fn read_suite_event<A: Allocator + Clone>(
     alloc: A,
     line: &[u8],
@@ -110,7 +111,7 @@ pub fn read_suite_event<A: Allocator + Clone>(
     ensures found { IfOk result (λ event. IsSpellable event × (line.now ≡ suite_event_text event)) }
     ensures only { (event : SuiteEvent A) → IsSpellable event → line.now ≡ suite_event_text event
         → ReadsIfMemory event result }
-    // Which fault it is. Memory is asked for once the line is known to be a scan's.
+    // The first fault is returned. Memory is taken after the line is known to be that of a scan.
     ensures exact { IsRead (suite_event_from (fields line.now)) result }
 {
     parse_suite_event(alloc, line)

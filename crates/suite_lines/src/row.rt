@@ -1,4 +1,4 @@
-//! A row as a line says it.
+//! A row, as a line spells it.
 ghost use Rattle.std.specs.Prelude.{◌≡◌, false, true, IfOk, MatchOption};
 ghost use Rattle.std.specs.List.{list_all};
 ghost use Rattle.suite_lines.specs.Text.{is_graphic, is_row_name};
@@ -10,7 +10,7 @@ use std::marker::Model;
 use std::str;
 use tai_status::Name;
 
-/// A row that a line says, by its name there. Contracts see it as `Row`.
+/// A row, as a line spells it; the name is borrowed from the line. Contracts see it as `Row`.
 #[derive(Drop)]
 pub(crate) struct RowText<'a> {
     name: &'a str,
@@ -34,21 +34,21 @@ impl<'a> Model for RowText<'a> {
     } };
 }
 
-/// Whether a byte is a flag of this letter: the letter, or `-`.
+/// Returns whether a byte is the flag with this letter: the letter, or `-`.
 fn is_flag(byte: u8, letter: u8) -> bool
     ensures { result ≡ is_flag letter byte }
 {
     byte == letter || byte == b'-'
 }
 
-/// Whether all bytes are from `!` to `~`.
+/// Returns whether all bytes are from `!` to `~`.
 fn are_graphic(bytes: &[u8]) -> bool
     ensures { result ≡ list_all is_graphic bytes.now }
 {
     bytes.iter().all(|byte| byte.is_ascii_graphic())
 }
 
-/// The text of a row's name: at least one byte, all from `!` to `~`.
+/// Reads a row's name: at least one byte, all from `!` to `~`.
 fn read_name(name: &[u8]) -> Option<&str>
     ensures { MatchOption result (is_row_name name.now ≡ false)
         (λ text. (is_row_name name.now ≡ true) × (text.now ≡ name.now)) }
@@ -59,7 +59,7 @@ fn read_name(name: &[u8]) -> Option<&str>
     str::from_utf8(name).ok()
 }
 
-/// The row whose text this is: the flags `d`, `l`, `n` and `m`, each its letter or `-`, a colon, and the name.
+/// Reads the text of a row: the flags `d`, `l`, `n` and `m`, each its letter or `-`, a colon, and the name.
 pub(crate) fn read_row(text: &[u8]) -> Option<RowText<'_>>
     ensures { result ≡ row_of_text text.now }
 {
@@ -82,7 +82,7 @@ pub(crate) fn read_row(text: &[u8]) -> Option<RowText<'_>>
     })
 }
 
-/// The row, with a name of its own.
+/// Copies the row, with a name of its own.
 pub(crate) fn own_row<A: Allocator>(alloc: A, row: &RowText<'_>) -> Result<DirRow<A>, AllocError>
     ensures { IfOk result (λ own. own ≡ row.now) }
 {

@@ -1,4 +1,4 @@
-//! The lines of what a step gives.
+//! The lines of a step's result.
 ghost use Rattle.std.specs.Prelude.{◌≡◌, ◌++◌, IfOk, OnOk, map, string_bytes};
 ghost use Rattle.suite_lines.specs.Text.{counts_text, drop_text, begun_text, refused_text, part_answer, step_lines};
 
@@ -9,7 +9,7 @@ use std::alloc::{AllocError, Allocator};
 use sup_core::{answer_text, took_text};
 use tai_status::{Lines, Name};
 
-/// How many parts a scan started and restarted, how many slots it dropped, and how many names it refused.
+/// Writes how many parts a scan started and restarted, how many slots it dropped, and how many names it refused.
 fn counts_line<A: Allocator, B: Allocator>(
     alloc: A,
     out: &ScanOut<B>,
@@ -25,14 +25,14 @@ fn counts_line<A: Allocator, B: Allocator>(
     )
 }
 
-/// The line of a slot that went.
+/// Writes the line of a slot that was dropped.
 fn drop_line<A: Allocator>(alloc: A, slot: u64) -> Result<String<A>, AllocError>
     ensures { IfOk result (λ line. string_bytes line ≡ drop_text slot) }
 {
     format!(in alloc; "{slot} dropped")
 }
 
-/// The line of what is answered for a part.
+/// Writes the line of a part's answer.
 fn part_line<A: Allocator>(alloc: A, part: PartId, answer: &str) -> Result<String<A>, AllocError>
     ensures { IfOk result (λ line. string_bytes line ≡ part_answer part answer.now) }
 {
@@ -40,7 +40,7 @@ fn part_line<A: Allocator>(alloc: A, part: PartId, answer: &str) -> Result<Strin
     format!(in alloc; "{} {answer}", part.as_str())
 }
 
-/// The line of a part that a scan began.
+/// Writes the line of a part that a scan began.
 fn begun_line<A: Allocator>(alloc: A, begun: &Begun) -> Result<String<A>, AllocError>
     ensures { IfOk result (λ line. string_bytes line ≡ begun_text begun.now) }
 {
@@ -48,7 +48,7 @@ fn begun_line<A: Allocator>(alloc: A, begun: &Begun) -> Result<String<A>, AllocE
     part_line(alloc, begun.part, answer.as_str())
 }
 
-/// The line of a name that gets no slot.
+/// Writes the line of a name that gets no slot.
 fn refused_line<A: Allocator, B: Allocator>(
     alloc: A,
     name: &Name<B>,
@@ -59,7 +59,7 @@ fn refused_line<A: Allocator, B: Allocator>(
     format!(in alloc; "{name} refused TooMany")
 }
 
-/// Puts the lines of the slots that went behind the others.
+/// Adds the lines of the dropped slots after the others.
 fn push_drops<A: Allocator + Clone>(
     alloc: &A,
     lines: &mut Vec<String<A>, A>,
@@ -74,7 +74,7 @@ fn push_drops<A: Allocator + Clone>(
     Ok(())
 }
 
-/// Puts the lines of the parts that a scan began behind the others.
+/// Adds the lines of the parts that a scan began after the others.
 fn push_begun<A: Allocator + Clone>(
     alloc: &A,
     lines: &mut Vec<String<A>, A>,
@@ -89,7 +89,7 @@ fn push_begun<A: Allocator + Clone>(
     Ok(())
 }
 
-/// Puts the lines of the names that get no slot behind the others.
+/// Adds the lines of the names that get no slot after the others.
 fn push_refused<A: Allocator + Clone, B: Allocator>(
     alloc: &A,
     lines: &mut Vec<String<A>, A>,
@@ -104,10 +104,10 @@ fn push_refused<A: Allocator + Clone, B: Allocator>(
     Ok(())
 }
 
-/// The lines of what a step gives, without their newlines. At a part, its text and the answer to the event. Of a scan,
-/// how many parts it started and restarted, how many slots it dropped, and how many names it refused; then a line for
-/// each slot that went, for each part that it began, with what that asks, and for each name that it refused, as there
-/// were too many slots.
+/// Writes the lines of a step's result, without their newlines. For an event at a part, this is the part's text and the
+/// answer to the event. For a scan, the first line says how many parts it started and restarted, how many slots it
+/// dropped, and how many names it refused. Then there is a line for each dropped slot; for each part that it began,
+/// with what that part asks for; and for each name that it refused since there were too many slots.
 pub fn step_text<A: Allocator + Clone, B: Allocator>(
     alloc: A,
     out: &StepOut<B>,

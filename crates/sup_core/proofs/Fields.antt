@@ -21,7 +21,7 @@ no_separator : {X : Type 0} (p : X → Bool) (xs : List X) → length xs ≤ pos
 no_separator p [] h = refl
 no_separator p (x ∷ xs) h = no_separator_front p x xs (p x) refl (no_separator p xs) h
 
--- with no separator a list is its one part
+-- a list without a separator is its own one part
 pub split_none : {X : Type 0} (p : X → Bool) (xs : List X) → position p xs ≡ None → slice_split p xs ≡ xs ∷ []
 split_none p xs h = no_separator p xs (grind (arith))
 

@@ -1,4 +1,4 @@
--- Laws of histories: the state of a history is all that later events depend on.
+-- Laws of histories: later events depend on nothing but the state of a history.
 use Rattle.std.proofs.Common.{◌≡◌, ℕ, zero, suc, ◌+◌, ◌<◌, Bool, true, false, length, take, drop, get_or, append_assoc}
 use Rattle.std.proofs.Common.{append-nil, add-one, List, [], ◌∷◌, ◌++◌, refl, sym, subst, if◌then◌else◌, ◌∙◌, ap, arith}
 use Rattle.std.specs.List.{AllByRecursion}
@@ -15,7 +15,7 @@ use Rattle.sup_core.specs.History.{until_of}
 use Rattle.sup_core.specs.Runs.{AreTaken, after, asks_along, followed_by, replies_to, taken_of}
 use Rattle.sup_core.specs.Rules.{reply_to, IsEvent, next, is_taken, takes, asks_of}
 
--- a history rests exactly where it ends in a failed start
+-- a history rests exactly if it ends in a failed start
 pub ends_in_failure-phase : (past : History) → ends_in_failure past ≡ is_resting (phase_of past)
 ends_in_failure-phase (Begin true label) = refl
 ends_in_failure-phase (Begin false label) = refl
@@ -26,7 +26,7 @@ ends_in_failure-phase (Then past (StartFailed label)) = refl
 ends_in_failure-phase (Then past (Death label)) = grind (arith)
 ends_in_failure-phase (Then past (Clock label)) = grind (arith)
 
--- Where two histories leave one state, they leave one state after the next event.
+-- If two histories lead to one state, they lead to one state after the next event.
 pub state_of-then : (p q : History) (event : Event) → state_of p ≡ state_of q
     → state_of (Then p event) ≡ state_of (Then q event)
 state_of-then p q (Byte byte) h = grind (arith)
@@ -41,7 +41,7 @@ followed_by-state p q [] h = h
 followed_by-state p q (event ∷ events) h =
     followed_by-state (Then p event) (Then q event) events (state_of-then p q event h)
 
--- What is taken and what is asked depend on that state alone.
+-- What is taken and what is asked for depend on that state alone.
 pub takes-state : (p q : History) (event : Event) → state_of p ≡ state_of q → takes p event ≡ takes q event
 takes-state p q event h = grind (arith)
 
@@ -58,7 +58,7 @@ pub followed_by-append : (past : History) (xs ys : List Event)
 followed_by-append past [] ys = refl
 followed_by-append past (x ∷ xs) ys = followed_by-append (Then past x) xs ys
 
--- A history may be cut anywhere: what came before the cut is reported by the state there.
+-- A history may be cut anywhere: the state there shows all that matters of what came before.
 pub state_of-cut : (past : History) (xs ys : List Event)
     → state_of (followed_by past (xs ++ ys)) ≡ state_of (followed_by (Opened (state_of (followed_by past xs))) ys)
 state_of-cut past xs ys =
@@ -66,7 +66,7 @@ state_of-cut past xs ys =
     ap state_of (followed_by-append past xs ys)
     ∙ followed_by-state here (Opened (state_of here)) ys refl
 
--- What is known of the event at a place of events that are taken.
+-- What is known of the event at a place in a list of events that are taken.
 pub record TakenAt (past : History) (events : List Event) (i : ℕ) (event : Event) : Type 0 where
   pub condition : IsEvent event
   pub taken : takes (followed_by past (take i events)) event ≡ true
@@ -88,7 +88,7 @@ AreTaken-append past [] event h condition taken = (condition, taken, tt)
 AreTaken-append past (e ∷ events) event h condition taken =
     (h.0, h.1, AreTaken-append (Then past e) events event h.2 condition taken)
 
--- What is taken of a history is taken of any other with its state.
+-- What is taken after a history is taken after any other with its state.
 pub AreTaken-state : (p q : History) (events : List Event) → state_of p ≡ state_of q → AreTaken p events
     → AreTaken q events
 AreTaken-state p q [] h taken = tt
@@ -104,7 +104,7 @@ next-taken past event taken = rw taken refl
 pub next-held : (past : History) (event : Event) → takes past event ≡ false → next past event ≡ past
 next-held past event held = rw held refl
 
--- What is answered with asks is taken.
+-- An event whose reply has asks is taken.
 pub reply_to-took : (past : History) (event : Event) (asks : List Ask) → Took asks ≡ reply_to past event
     → takes past event ≡ true
 reply_to-took past event asks said =
@@ -124,7 +124,7 @@ next-state p q event h =
 pub reply_to-state : (p q : History) (event : Event) → state_of p ≡ state_of q → reply_to p event ≡ reply_to q event
 reply_to-state p q event h = rw (takes-state p q event h, asks_of-state p q event h) refl
 
--- Two histories of one state go on alike.
+-- Two histories with one state continue alike.
 pub after-state : (p q : History) (events : List Event) → state_of p ≡ state_of q
     → state_of (after p events) ≡ state_of (after q events)
 after-state p q [] h = h
@@ -181,7 +181,7 @@ taken_of-state p q (event ∷ events) h =
       | false ↦ λ is. let rest = taken_of-state p q events h in rw (takes-state p q event h, is, rest) refl
     ] refl
 
--- what is left of these events is the history
+-- the events that are taken lead to the same history as all of them
 pub after-taken_of : (past : History) (events : List Event)
     → after past events ≡ followed_by past (taken_of past events)
 after-taken_of past [] = refl
@@ -192,7 +192,7 @@ after-taken_of past (event ∷ events) =
       | false ↦ λ is. rw is (after-taken_of past events)
     ] refl
 
--- events that are taken are all of them
+-- if each event is taken, those that are taken are all of them
 pub taken_of-all : (past : History) (events : List Event) → AreTaken past events → taken_of past events ≡ events
 taken_of-all past [] h = refl
 taken_of-all past (event ∷ events) h = rw (h.1, taken_of-all (Then past event) events h.2) refl
@@ -213,7 +213,7 @@ taken_of-append past (x ∷ xs) ys =
       | false ↦ taken_of-append past xs ys
     ]
 
--- Where supervise is done, nothing more is taken.
+-- If supervise is done, it takes nothing more.
 pub takes-gone : (past : History) (event : Event) → phase_of past ≡ phase.Gone → takes past event ≡ false
 takes-gone past event gone = ap (λ (p : Phase). is_taken p (until_of past) event) gone
 
@@ -223,7 +223,7 @@ after-gone past (event ∷ events) gone =
     ap (λ (p : History). after p events) (next-held past event (takes-gone past event gone))
     ∙ after-gone past events gone
 
--- Supervise is not done where it begins.
+-- Supervise is not done when it begins.
 pub begin-not_gone : (down : Bool) (label : Tai64n) → phase_of (Begin down label) ≡ phase.Gone → ⊥
 begin-not_gone true label h = cc h
 begin-not_gone false label h = cc h
@@ -248,7 +248,7 @@ pub AreTaken-concat : (past : History) (xs ys : List Event) → AreTaken past xs
 AreTaken-concat past [] ys h g = g
 AreTaken-concat past (x ∷ xs) ys h g = (h.0, h.1, AreTaken-concat (Then past x) xs ys h.2 g)
 
--- those after the first n, taken after these
+-- the events after the first n are taken after those n
 pub AreTaken-drop : (past : History) (n : ℕ) (events : List Event) → AreTaken past events
     → AreTaken (followed_by past (take n events)) (drop n events)
 AreTaken-drop past zero events h = h
@@ -261,7 +261,7 @@ AreTaken-take past zero events h = tt
 AreTaken-take past (suc n) [] h = tt
 AreTaken-take past (suc n) (event ∷ events) h = (h.0, h.1, AreTaken-take (Then past event) n events h.2)
 
--- What is asked
+-- What is asked for
 
 pub asks_along-append : (past : History) (xs ys : List Event)
     → asks_along past (xs ++ ys) ≡ asks_along past xs ++ asks_along (followed_by past xs) ys

@@ -1,4 +1,4 @@
--- Event lines and begin lines: what is reported is read, and what is read is reported so.
+-- Event lines and begin lines: what is written is read, and what is read is written so.
 use Rattle.std.proofs.Common.{◌≡◌, ℕ, ◌^◌, ◌<◌, ◌≤◌, ◌==◌, nat_lt, Bool, true, false, not, List, [], ◌∷◌, ◌++◌, drop}
 use Rattle.std.proofs.Common.{Option, Some, None, Result, Ok, Err, zero, suc, ◌/◌, ◌%◌, refl, sym, ap, ◌∙◌, arith}
 use Rattle.std.proofs.Common.{decimal, subst, codes}
@@ -61,7 +61,7 @@ split-last separator (x ∷ xs) h =
     slice_split-cons_no (λ byte. byte == separator) x xs (not_false (x == separator) parts.0)
     ∙ ap (onto_first x) (split-last separator xs parts.1)
 
--- Texts of bytes past the space have neither a space nor a newline.
+-- Texts of bytes above the space have neither a space nor a newline.
 
 abbrev pub is_solid : List ℕ → Bool
 is_solid text = list_all (λ byte. nat_lt 32 byte) text
@@ -136,7 +136,7 @@ phase_name-solid phase.Up = refl
 phase_name-solid phase.Down = refl
 phase_name-solid phase.Gone = refl
 
--- What is reported is read.
+-- What is written is read.
 
 -- solid fields are the fields of their line
 pub fields-join : (field : List ℕ) (rest : List (List ℕ))
@@ -188,7 +188,7 @@ pub begin_from-begin_text : (down : Bool) (label : Tai64n) → IsLabel label →
     ≡ Ok (down, label)
 begin_from-begin_text down label range = ap begin_from (side_fields down label range) ∙ begin_read down label range
 
--- What is read is reported so.
+-- What is read is written so.
 
 pub record Reported (parts : List (List ℕ)) (event : Event) : Type 0 where
   pub range : IsInRange event
@@ -242,7 +242,7 @@ start_line word (a ∷ b ∷ []) event is h =
     start_spelt word a b (pid_of_text a) (label_of_text b) event (pid_of_text-found a) (label_of_text-found b) is h
 start_line word (a ∷ b ∷ c ∷ rest) event is h = cc h
 
--- an event with a label alone
+-- an event with nothing but a label
 record SpellsAlone (name : List ℕ) (make : Tai64n → Event) : Type 0 where
   range : (label : Tai64n) → IsLabel label → IsInRange (make label)
   is : (label : Tai64n) → name ∷ label_text label ∷ [] ≡ event_fields (make label)
@@ -290,7 +290,7 @@ pub report_of : (parts : List (List ℕ)) (event : Event) → event_from parts �
 report_of [] event h = cc h
 report_of (word ∷ rest) event h = event_spelt word rest event (ok_parts _ _ event h)
 
--- What a line is read as has that line.
+-- The event that a line is read as has that line.
 pub event_text-event_from : (line : List ℕ) (r : Result Event EventFault) → r ≡ event_from (fields line)
     → IfOk r (λ event. IsInRange event × (line ≡ event_text event))
 event_text-event_from line (Ok event) h =
@@ -343,7 +343,7 @@ begin_spelt (word ∷ rest) begin h =
     choose word (codes "begin") _ _ begin (side_line word rest begin) (λ (none : None ≡ Some begin). cc none)
     (ok_parts _ _ begin h)
 
--- What a line is read as has that begin line.
+-- The beginning that a line is read as has that begin line.
 pub begin_text-begin_from : (line : List ℕ) (r : Result (Bool × Tai64n) EventFault) → r ≡ begin_from (fields line)
     → IfOk r (λ begin. IsLabel begin.1 × (line ≡ begin_text begin.0 begin.1))
 begin_text-begin_from line (Ok begin) h =
@@ -358,7 +358,7 @@ other_word word name other =
       | false ↦ λ is. refl
     ] refl
 
--- A line of an unknown word is refused as that.
+-- A line with an unknown word is refused as one.
 pub unknown_word : (word : List ℕ) (rest : List (List ℕ)) → ((known : Word) → word ≡ word_name known → ⊥)
     → event_from (word ∷ rest) ≡ Err fault.UnknownEvent
 unknown_word word rest other =
@@ -377,7 +377,7 @@ IsEvent-in_range (StartFailed label) h = tt
 IsEvent-in_range (Death label) h = tt
 IsEvent-in_range (Clock label) h = tt
 
--- A process number of what is read is at least 1.
+-- A process number that is read is at least 1.
 pub IsEvent-event_from : (line : List ℕ) (r : Result Event EventFault) → r ≡ event_from (fields line) → IfOk r IsEvent
 IsEvent-event_from line (Ok event) h = IsEvent-in_range event (report_of (fields line) event (sym h)).range
 IsEvent-event_from line (Err e) h = tt

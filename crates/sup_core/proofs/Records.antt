@@ -1,4 +1,4 @@
--- A step writes the record of the state after it, or leaves what the record says.
+-- A step writes the record of the state after it, or does not change what the record says.
 use Rattle.std.proofs.Common.{◌≡◌, ◌≢◌, ℕ, Bool, true, false, List, [], ◌∷◌, ◌++◌, map, refl, sym, ap, ◌∙◌, arith}
 use Rattle.std.proofs.Common.{append-nil, codes}
 use Rattle.std.specs.Prelude.{if◌then◌else◌}
@@ -65,16 +65,16 @@ records_of-asks_of past event =
     ∙ between _ _ _ (signals_none past event) (start_none (Then past event))
     ∙ written (writes event) (Then past event)
 
--- The one record that is asked for where supervise begins is that of its state.
+-- The one record that is asked for when supervise begins is the record of its state.
 pub records_of-asks_of_begin : (history : History) → records_of (asks_of_begin history) ≡ full_record (full_of history)
     ∷ []
 records_of-asks_of_begin history =
     records_of-append (record_of history) (start_of history)
     ∙ ap (λ (records : List (List ℕ)). records_of (record_of history) ++ records) (start_none history)
 
--- what is not written stays
+-- what is not written stays as it is
 
--- The letters of the bytes that are written are among those of the bytes that change what is reported.
+-- A byte that causes no record does not change the status.
 status_of-unwritten : (past : History) (byte : ℕ) → is_among (codes "udopcx") byte ≡ false
     → status_of (Then past (Byte byte)) ≡ status_of past
 status_of-unwritten past byte h = grind (arith)
@@ -83,7 +83,8 @@ exiting_of-unwritten : (past : History) (byte : ℕ) → is_among (codes "udopcx
     → exiting_of (Then past (Byte byte)) ≡ exiting_of past
 exiting_of-unwritten past byte h = grind (arith)
 
--- Such a byte leaves the phase, where it is taken: up there is a process, and down there is none and no exit.
+-- Such a byte does not change the phase if it is taken: in phase up there is a process; in phase down there is none,
+-- and no exit.
 phase_of-unwritten : (past : History) (byte : ℕ) (p : Phase) → phase_of past ≡ p
     → StandsIn p (status_of past) (exiting_of past)
     → is_taken p (until_of past) (Byte byte) ≡ true → is_among (codes "udopcx") byte ≡ false
@@ -121,7 +122,7 @@ is_written : (past : History) (event : Event) (b : Bool) → (record_at b (Then 
 is_written past event true some = refl
 is_written past event false some = absurd (some refl)
 
--- A step that asks for no record leaves what the record says.
+-- A step that asks for no record does not change what the record says.
 pub step_unwritten : (past : History) (event : Event) → StandsIn (phase_of past) (status_of past) (exiting_of past)
     → records_in (reply_to past event) ≡ []
     → full_of (next past event) ≡ full_of past
@@ -134,7 +135,7 @@ step_unwritten past event so none =
       | false ↦ λ taken none. refl
     ] refl none
 
--- A step that asks for a record asks for that of the state after it, and for no other.
+-- A step that asks for a record asks for the record of the state after it, and for no other.
 pub step_written : (past : History) (event : Event) → records_in (reply_to past event) ≢ []
     → records_in (reply_to past event) ≡ full_record (full_of (next past event)) ∷ []
 step_written past event some =

@@ -39,11 +39,11 @@ meant_table : all_below is_meant 256 ≡ true
 unfolding encode_with
 meant_table = refl
 
--- a text that is a byte's text means it
+-- the text of a byte means that byte
 pub byte_meant-byte_text : (byte : ℕ) → byte < 2 ^ 8 → byte_meant (byte_text byte) ≡ byte
 byte_meant-byte_text byte below = eqb-true _ _ (all_below-at is_meant 256 byte meant_table below)
 
--- the digits of a byte are read as it
+-- the digits of a byte are read as that byte
 pub digits_read : (digits : List ℕ) (byte : ℕ) → byte < 2 ^ 8 → digits ≡ encode_lower (byte ∷ [])
     → decode_sized digits 1 ≡ Ok (byte ∷ [])
 digits_read digits byte below is =
@@ -74,7 +74,7 @@ text_of_one text byte len is =
     absurd (omega (arith, len, ap length (is ∙ e), two_digits byte)))
     (text_cases byte)
 
--- any other is two digits
+-- any other text of a byte has two digits
 pub text_of_two : (text : List ℕ) (byte : ℕ) → (length text ≡ 1 → ⊥) → text ≡ byte_text byte
     → text ≡ encode_lower (byte ∷ [])
 text_of_two text byte len is =
@@ -82,21 +82,21 @@ text_of_two text byte len is =
     (λ (e : byte_text byte ≡ encode_lower (byte ∷ [])). is ∙ e)
     (text_cases byte)
 
--- Answers that are tested
+-- Results that are tested
 
 tested : {A : Type 0} (R : A → Type 0) (test : Bool) (x : A) → (test ≡ true → R x)
     → IfSome (if test then Some x else None) R
 tested R test x h =
     elim test as (λ t. test ≡ t → IfSome (if t then Some x else None) R) [ true ↦ λ is. h is | false ↦ λ is. tt ] refl
 
--- two answers that both report the same are one
+-- two results that spell the same are equal
 pub same_spelt : {A : Type 0} (R : A → Type 0) (a b : Option A) → IfSome a R → IfSome b R
     → ((x : A) → R x → a ≡ Some x) → ((x : A) → R x → b ≡ Some x) → a ≡ b
 same_spelt R (Some x) b ra rb oa ob = sym (ob x ra)
 same_spelt R None (Some y) ra rb oa ob = oa y rb
 same_spelt R None None ra rb oa ob = refl
 
--- there is no answer where none would be true
+-- there is no result if none would be right
 pub none_spelt : {A : Type 0} (R : A → Type 0) (b : Option A) → IfSome b R → ((x : A) → R x → ⊥) → None ≡ b
 none_spelt R None rb never = refl
 none_spelt R (Some x) rb never = absurd (never x rb)

@@ -1,4 +1,4 @@
--- The test whether a machine can stand so, and the fact.
+-- The test for a possible state of a machine agrees with the fact.
 use Rattle.std.proofs.Common.{◌≡◌, ℕ, ◌<◌, ◌&&◌, ◌==◌, true, Option, Some, None, refl, ap, ◌∙◌, arith}
 use Rattle.std.specs.Prelude.{◌↔◌, is_none, IsSomeAnd}
 use Rattle.std.specs.Cmp.Derive.{both_true}
@@ -47,7 +47,7 @@ waits_until-decides phase.Up s until = no_until until
 waits_until-decides phase.Down s until = no_until until
 waits_until-decides phase.Gone s until = no_until until
 
--- the test decides where a machine can stand
+-- the test decides whether a machine can be in a state
 pub is_state-decides : (s : State) → IsState s ↔ (is_state s ≡ true)
 is_state-decides s =
     two _ _ (stands_in-decides s.phase s.status s.exiting) (waits_until-decides s.phase s.status s.until)

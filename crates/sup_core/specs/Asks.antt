@@ -1,4 +1,4 @@
--- What one step may ask.
+-- What one step may ask for.
 use Rattle.std.specs.Prelude.{ℕ, ◌≤◌, Bool, true, false, List, [], ◌∷◌, length, count_by}
 use Rattle.sup_core.specs.declared.asks.Ask.{Ask}
 use Rattle.sup_core.specs.declared.asks.Ask.TheVariants.{Write}
@@ -12,7 +12,7 @@ is_write other = false
 abbrev pub count_of_writes : List Ask → ℕ
 count_of_writes asks = count_by is_write asks
 
--- At most three asks, and at most one of them a record.
+-- There are at most three asks, and at most one of them is a record.
 pub record AreAsks (asks : List Ask) : Type 0 where
   pub few : length asks ≤ 3
   pub one_record : count_of_writes asks ≤ 1

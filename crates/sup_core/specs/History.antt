@@ -1,5 +1,5 @@
--- A history of a service, and what it says: each fact by the last event that speaks of it. The facts
--- are those of the pages on supervise and svc.
+-- A history of a service, and what it says. Each fact comes from the last event that concerns it. The facts are those
+-- of daemontools' pages on supervise and svc.
 use Rattle.std.specs.Prelude.{ℕ, Bool, true, false, not, ◌&&◌, ◌==◌, nat_lt, if◌then◌else◌, List, codes, Option, Some}
 use Rattle.std.specs.Prelude.{None}
 use Rattle.std.specs.List.{list_any}
@@ -14,8 +14,8 @@ use Rattle.tai_status.specs.declared.phase.Phase.{Phase}
 use Rattle.tai_status.specs.declared.phase.Phase.TheVariants as phase
 use Rattle.sup_core.specs.State.{State, full_in, is_up}
 
--- A history is an opening and the events taken since, the last one outermost. It opens where
--- supervise begins, with or without the `down` file, or with a machine as it stands.
+-- A history is an opening and the events taken since then, the last one outermost. It opens when supervise begins, with
+-- or without the `down` file, or with a machine in some state.
 pub data History : Type 0 where
   Begin : Bool → Tai64n → History
   Opened : State → History
@@ -27,7 +27,7 @@ is_among letters byte = list_any (λ letter. byte == letter) letters
 
 -- Facts
 
--- The process number is that of the last start with no death after it, else 0.
+-- The process number is that of the last start if no death came after it, and 0 otherwise.
 abbrev pub pid_of : History → ℕ
 pid_of (Begin down label) = 0
 pid_of (Opened state) = state.status.pid
@@ -38,7 +38,7 @@ pid_of (Then past event) = pid_of past
 abbrev pub runs : History → Bool
 runs history = nat_lt 0 (pid_of history)
 
--- What is wanted is said by the last of u, d and o.
+-- The last of u, d and o says what is wanted.
 abbrev pub want_of : History → Want
 want_of (Begin down label) = if down then want.Down else want.Up
 want_of (Opened state) = state.status.want
@@ -52,7 +52,7 @@ want_of (Then past event) = want_of past
 abbrev pub wants_up : History → Bool
 wants_up history = is_up (want_of history)
 
--- A process is paused where the last of its start, p, c and d is p.
+-- A process is paused if the last of its start, p, c and d is p.
 abbrev pub paused_of : History → Bool
 paused_of (Begin down label) = false
 paused_of (Opened state) = state.status.paused
@@ -72,7 +72,7 @@ label_of (Then past (Started pid label)) = label
 label_of (Then past (Death label)) = label
 label_of (Then past event) = label_of past
 
--- The byte x occurs.
+-- Whether the byte x occurs.
 abbrev pub exiting_of : History → Bool
 exiting_of (Begin down label) = false
 exiting_of (Opened state) = state.exiting
@@ -93,15 +93,17 @@ abbrev pub is_resting : Phase → Bool
 is_resting phase.Resting = true
 is_resting other = false
 
--- A failed start comes last, or the opening rests after one.
+-- A failed start comes last, or the history opens at rest after one.
 abbrev pub ends_in_failure : History → Bool
 ends_in_failure (Then past (StartFailed label)) = true
 ends_in_failure (Opened state) = is_resting state.phase
 ends_in_failure history = false
 
--- A history calls for a start where its last item is one of these: a begin that wants up; a byte u or
--- o with no process before it; a death where up is wanted and no exit; a clock reading that ends the
--- rest after a failed start, where up is wanted.
+-- A history calls for a start if its last item is one of these:
+-- - a beginning that wants up
+-- - a byte u or o with no process before it
+-- - a death, if up is wanted and there is no exit
+-- - a clock reading that ends the rest after a failed start, if up is wanted
 abbrev pub calls_for_start : History → Bool
 calls_for_start (Begin down label) = wants_up (Begin down label)
 calls_for_start (Then past (Byte byte)) = is_among (codes "uo") byte && not (runs past)
@@ -111,7 +113,7 @@ calls_for_start history = false
 
 -- Phases
 
--- with no start called for and none just answered
+-- the phase if no start is called for and no start has just succeeded or failed
 abbrev pub phase_at_rest : History → Phase
 phase_at_rest history =
     if runs history then phase.Up else if exiting_of history then phase.Gone else phase.Down
@@ -125,7 +127,7 @@ abbrev pub phase_of : History → Phase
 phase_of (Opened state) = state.phase
 phase_of history = if calls_for_start history then phase.Starting else phase_by_end history
 
--- Settling and resting last until one second past the label of the start or of its failure.
+-- Settling and resting last until one second after the label of the start or of its failure.
 abbrev pub until_of : History → Option Tai64n
 until_of (Opened state) = state.until
 until_of (Then past (Started pid label)) = Some (plus_second label)

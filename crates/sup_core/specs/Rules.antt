@@ -1,4 +1,4 @@
--- What supervise takes and asks, by the history so far: the table of the pages on supervise and svc.
+-- What supervise takes and asks for, by the history so far: the table of daemontools' pages on supervise and svc.
 use Rattle.std.specs.Prelude.{ℕ, ◌<◌, Bool, true, false, not, if◌then◌else◌, List, [], ◌∷◌, ◌++◌, map, flat_map, codes}
 use Rattle.std.specs.Prelude.{Option, Some, None, ⊤}
 use Rattle.tai_status.specs.Label.{Tai64n, is_earlier}
@@ -30,7 +30,7 @@ abbrev pub reaches : Option Tai64n → Event → Bool
 reaches until (Clock label) = is_reached until label
 reaches until event = false
 
--- what is taken in each phase
+-- which events are taken in each phase
 abbrev pub is_taken : Phase → Option Tai64n → Event → Bool
 is_taken phase.Starting until (Started pid label) = true
 is_taken phase.Starting until (StartFailed label) = true
@@ -73,7 +73,7 @@ controls =
     control (codes "2") (USR2 ∷ []) (codes "send USR2") ∷
     control (codes "q") (QUIT ∷ []) (codes "send QUIT") ∷ []
 
--- the letters of the control bytes
+-- the letters of all control bytes
 abbrev pub letters : List ℕ
 letters = flat_map (λ row. row.letter) controls
 
@@ -84,7 +84,7 @@ abbrev pub signals_in : List Control → ℕ → List Sig
 signals_in [] byte = []
 signals_in (row ∷ rows) byte = if is_among row.letter byte then row.signals else signals_in rows byte
 
--- the signals of a byte, while there is a process
+-- the signals of a byte, if there is a process
 abbrev pub signals_of : ℕ → List Sig
 signals_of byte = signals_in controls byte
 
@@ -92,7 +92,7 @@ abbrev pub first_of : List Sig → Option Sig
 first_of [] = None
 first_of (sig ∷ sigs) = Some sig
 
--- the first signal of a byte, while there is a process
+-- the first signal of a byte, if there is a process
 abbrev pub signal_of : ℕ → Option Sig
 signal_of byte = first_of (signals_of byte)
 
@@ -101,7 +101,8 @@ signals_after past (Byte byte) =
     if runs past then map (λ sig. Signal sig (pid_of past)) (signals_of byte) else []
 signals_after past event = []
 
--- whether an event has a status record written: a control byte that can change what it says, and any other event
+-- whether an event causes a status record: a control byte that can change the record, or any event that is no control
+-- byte
 abbrev pub writes : Event → Bool
 writes (Byte byte) = is_among (codes "udopcx") byte
 writes event = true
@@ -112,20 +113,20 @@ record_of history = Write (full_record (full_of history)) ∷ []
 abbrev pub start_of : History → List Ask
 start_of history = if calls_for_start history then Start ∷ [] else []
 
--- what supervise asks at an event that is taken
+-- what supervise asks for at an event that it takes
 abbrev pub asks_of : History → Event → List Ask
 asks_of past event =
     signals_after past event
     ++ (if writes event then record_of (Then past event) else [])
     ++ start_of (Then past event)
 
--- what supervise asks where it begins
+-- what supervise asks for when it begins
 abbrev pub asks_of_begin : History → List Ask
 asks_of_begin history = record_of history ++ start_of history
 
--- What is answered
+-- Replies
 
--- the history after an event, which leaves no mark where it is not taken
+-- the history after an event; an event that is not taken leaves no mark
 abbrev pub next : History → Event → History
 next past event = if takes past event then Then past event else past
 

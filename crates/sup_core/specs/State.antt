@@ -1,5 +1,5 @@
--- How a machine stands: its phase, what its status record says, whether it is to end, and until when it
--- settles or rests.
+-- The state of a machine: its phase, what its status record says, whether supervise exits after the process, and until
+-- when it settles or rests.
 use Rattle.std.specs.Prelude.{◌≡◌, ◌<◌, ◌==◌, ◌&&◌, nat_lt, Bool, true, false, if◌then◌else◌, Option, Some, None}
 use Rattle.std.specs.Prelude.{is_none, IsSomeAnd}
 use Rattle.tai_status.specs.Label.{Tai64n, plus_second}
@@ -35,11 +35,11 @@ WaitsUntil phase.Settling status until = until ≡ Some (plus_second status.labe
 WaitsUntil phase.Resting status until = IsSomeAnd until (λ until. 0 < until.sec)
 WaitsUntil other status until = until ≡ None
 
--- How a machine can stand: as a service can stand in that phase, and until then.
+-- The possible states of a machine: those of a service in that phase, with the right time until when it waits.
 abbrev pub IsState : State → Type 0
 IsState s = StandsIn s.phase s.status s.exiting × WaitsUntil s.phase s.status s.until
 
--- The same as a test, for reading a state: `is_state-decides` in proofs/Standing says that the two agree.
+-- The same condition as a test, for reading: `is_state-decides` in proofs/Standing proves that the two agree.
 
 abbrev pub is_label : Tai64n → Option Tai64n → Bool
 is_label label (Some until) = (until.sec == label.sec) && (until.nano == label.nano)
@@ -58,14 +58,14 @@ waits_until other status until = is_none until
 abbrev pub is_state : State → Bool
 is_state s = stands_in s.phase s.status s.exiting && waits_until s.phase s.status s.until
 
--- Words of private functions alone
+-- Words of private functions only
 
--- where a service goes whose process died
+-- the phase of a service after its process died
 abbrev pub phase_after_death : Status → Bool → Phase
 phase_after_death status exiting =
     if exiting then phase.Gone else if is_up status.want then phase.Starting else phase.Down
 
--- where a service goes that has settled or rested
+-- the phase of a service after it settled or rested
 abbrev pub phase_after_pause : Phase → Status → Phase
 phase_after_pause phase.Settling status = phase.Up
 phase_after_pause other status = if is_up status.want then phase.Starting else phase.Down

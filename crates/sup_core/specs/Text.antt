@@ -18,7 +18,7 @@ use Rattle.sup_core.specs.declared.reading.EventFault.TheVariants as why
 use Rattle.sup_core.specs.History.{is_among}
 use Rattle.sup_core.specs.Rules.{signals_of, writes}
 
--- A byte from `!` to `~` is itself. Any other is its two lower-case hexadecimal digits.
+-- A byte from `!` to `~` is itself. Any other byte is its two lower-case hexadecimal digits.
 abbrev pub byte_text : ℕ → List ℕ
 byte_text byte =
     if nat_le 0x21 byte && nat_le byte 0x7e then byte ∷ [] else encode_lower (byte ∷ [])
@@ -31,7 +31,7 @@ event_fields (StartFailed label) = codes "failed" ∷ label_text label ∷ []
 event_fields (Death label) = codes "death" ∷ label_text label ∷ []
 event_fields (Clock label) = codes "clock" ∷ label_text label ∷ []
 
--- the line of an event: its fields, parted by one space
+-- the line of an event: its fields, separated by one space
 abbrev pub event_text : Event → List ℕ
 event_text event = join_with_byte 32 (event_fields event)
 
@@ -40,7 +40,7 @@ abbrev pub begin_fields : Bool → Tai64n → List (List ℕ)
 begin_fields down label =
     codes "begin" ∷ (if down then codes "down" else codes "up") ∷ label_text label ∷ []
 
--- the line that says where supervise begins
+-- the line that says how supervise begins
 abbrev pub begin_text : Bool → Tai64n → List ℕ
 begin_text down label = join_with_byte 32 (begin_fields down label)
 
@@ -68,7 +68,7 @@ fault_name why.Line = codes "Line"
 fault_name why.Number = codes "Number"
 fault_name why.Label = codes "Label"
 
--- what was asked, each after a space
+-- what was asked for, each ask after a space
 abbrev pub asks_text : List Ask → List ℕ
 asks_text asks = flat_map (λ ask. 32 ∷ ask_text ask) asks
 
@@ -80,7 +80,7 @@ reply_text (Took asks) = codes "took" ++ asks_text asks
 abbrev pub answer_text : Reply → Phase → List ℕ
 answer_text reply phase = reply_text reply ++ codes " -> " ++ phase_name phase
 
--- how long the text of an ask can be
+-- the greatest length of the text of an ask
 abbrev pub longest : Ask → ℕ
 longest (Signal sig pid) = 17
 longest Start = 5
@@ -93,7 +93,7 @@ ask_name (Signal sig pid) = signal_name sig
 ask_name Start = codes "start"
 ask_name (Write bytes) = codes "record"
 
--- the names of what a byte asks, where there is a process or where there is none
+-- the names of what a byte asks for, if there is a process and if there is none
 abbrev pub asked_names : ℕ → Bool → List (List ℕ)
 asked_names byte running =
     (if running then map signal_name (signals_of byte) else [])

@@ -3,7 +3,7 @@ ghost use Rattle.std.specs.Prelude.{◌≡◌, ◌↔◌, IsTrue, if◌then◌el
 use arrayvec::ArrayVec;
 use std::marker::Model;
 
-/// A signal to a process, by its name without the `SIG`.
+/// A signal to a process, by its name without `SIG`.
 #[derive(Clone, Copy, Debug, PartialEq, Eq)]
 pub enum Sig {
     TERM,
@@ -18,9 +18,9 @@ pub enum Sig {
     QUIT,
 }
 
-/// The signals, each with its name as it is read.
+/// The signals, each with its name in a line.
 ///
-/// The list is handed to the macro that is named, after its arguments.
+/// This macro passes the list to the macro that its caller names, after that macro's arguments.
 macro_rules! signals {
     ($rows:ident $arguments:tt) => {
         $rows! {
@@ -44,7 +44,7 @@ pub(crate) use signals;
 /// What a machine asks of the system.
 #[derive(Clone, Copy, Debug, PartialEq, Eq, Default)]
 pub enum Ask {
-    /// Send the signal to the process of this number.
+    /// Send this signal to the process with this number.
     Signal(Sig, u32),
     /// Start the service.
     #[default]
@@ -56,7 +56,7 @@ pub enum Ask {
 impl Ask {
     ghost use Rattle.sup_core.specs.Asks.{is_write};
 
-    /// Whether this is a record to be written.
+    /// Returns whether this asks for a record to be written.
     fn is_write(&self) -> bool
         ensures { result ≡ is_write self.now }
     {
@@ -64,7 +64,7 @@ impl Ask {
     }
 }
 
-/// What one step asks, in order: at most three things, and at most one of them a record.
+/// What one step asks for, in order: at most three asks, and at most one of them a record.
 #[derive(Debug, Drop)]
 pub struct Asks {
     asks: ArrayVec<Ask, 3>,
@@ -86,7 +86,7 @@ impl Model for Asks {
 impl Asks {
     ghost use Rattle.sup_core.specs.Asks.{AreAsks, count_of_writes};
 
-    /// No asks.
+    /// Returns an empty list of asks.
     pub fn new() -> Asks
         ensures { result ≡ [] }
     {
@@ -95,7 +95,7 @@ impl Asks {
         }
     }
 
-    /// Puts an ask at the end, unless there are three, or it is a second record. Whether it is there now.
+    /// Adds an ask at the end, unless there are three already, or it is a second record. Returns whether it was added.
     pub fn try_push(&mut self, ask: Ask) -> bool
         ensures fits { IsTrue result ↔ AreAsks (self.old ++ ask ∷ []) }
         ensures asks { self.new ≡ (if result then self.old ++ ask ∷ [] else self.old) }
@@ -107,7 +107,7 @@ impl Asks {
         fits
     }
 
-    /// Whether an ask can be put at the end.
+    /// Returns whether an ask can be added at the end.
     #[tactic(auto, using(crate::proofs::Counts::count_of_writes_push))]
     fn fits(&self, ask: &Ask) -> bool
         ensures { IsTrue result ↔ AreAsks (self.now ++ ask.now ∷ []) }
@@ -115,14 +115,14 @@ impl Asks {
         self.asks.len() < 3 && !(ask.is_write() && self.has_record())
     }
 
-    /// Whether a record is asked for.
+    /// Returns whether a record is asked for.
     fn has_record(&self) -> bool
         ensures { IsTrue result ↔ (0 < count_of_writes self.now) }
     {
         self.asks.iter().any(|ask| ask.is_write())
     }
 
-    /// Puts an ask at the end.
+    /// Adds an ask at the end.
     pub(crate) fn push(&mut self, ask: Ask)
         requires few { length self.old < 3 }
         requires one_record { count_of_writes (self.old ++ ask ∷ []) ≤ 1 }
@@ -131,7 +131,7 @@ impl Asks {
         self.asks.push(ask);
     }
 
-    /// The asks, in order.
+    /// Returns the asks, in order.
     pub fn as_slice(&self) -> &[Ask]
         ensures asks { result.now ≡ self.now }
         ensures bounds { AreAsks result.now }
@@ -140,7 +140,7 @@ impl Asks {
     }
 }
 
-/// What a step answers.
+/// The reply to an event.
 #[derive(Debug, Drop)]
 pub enum Reply {
     /// The event was not taken, and nothing changed.

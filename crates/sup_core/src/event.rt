@@ -5,7 +5,7 @@ use tai_status::Label;
 pub enum Event {
     /// A control byte came.
     Byte(u8),
-    /// The start that was asked for made this process, whose number is at least 1.
+    /// The start that was asked for made this process. Its number is at least 1.
     Started { pid: u32, label: Label },
     /// The start that was asked for failed.
     StartFailed { label: Label },

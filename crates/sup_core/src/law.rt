@@ -3,8 +3,8 @@ ghost use Rattle.sup_core.specs.declared.event.Event.{Event};
 ghost use Rattle.sup_core.specs.History.{History, state_of};
 ghost use Rattle.sup_core.specs.Runs.{after, reopened, replies_to};
 
-/// A law of histories: two that leave a machine in one state go on alike. So a history may be cut anywhere, and what
-/// came before the cut is shown by the machine that stands there.
+/// States a law of histories: two that lead to one state of a machine continue alike. A history can therefore be cut
+/// anywhere: the state of the machine at the cut shows all that matters of what came before.
 pub fn histories_of_one_state()
     ensures state { (p q : History) (events : List Event) → state_of p ≡ state_of q →
         state_of (after p events) ≡ state_of (after q events) }

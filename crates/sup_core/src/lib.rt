@@ -1,8 +1,8 @@
 //! What supervise does at each event of a service: the decisions, with no process and no clock.
 //!
-//! A `Machine` is where supervise stands with one service. `Machine::step` takes an event and answers what to ask of
-//! the system: signals, the status record, a start. Contracts speak of histories: `specs/History` says what a history
-//! says, and `specs/Rules` what is taken and asked after it. Lines of text spell events and answers.
+//! A `Machine` is the state of supervise for one service. `Machine::step` takes an event, and returns what to ask of
+//! the system: signals, the status record, a start. Contracts are about histories. `specs/History` defines what a
+//! history says, and `specs/Rules` what is taken and asked for after it. Lines of text spell events and answers.
 #![tactic(auto)]
 
 mod asks;

@@ -22,7 +22,7 @@ macro_rules! change {
     ($machine:ident, phase = $phase:ident) => { $machine.phase = Phase::$phase; };
 }
 
-/// One ask of a row.
+/// Makes one ask of a row.
 macro_rules! ask {
     ($machine:ident, record) => { record_ask($machine.phase, &$machine.view, $machine.exiting) };
     ($machine:ident, start) => { Ask::Start };
@@ -57,7 +57,7 @@ macro_rules! take_byte {
     };
 }
 
-/// Whether an event is taken, by the rows of the events that are.
+/// Decides whether an event is taken, by the rows of the events that are.
 macro_rules! takes_event {
     (
         ($machine:ident, $event:ident)
@@ -70,14 +70,14 @@ macro_rules! takes_event {
     };
 }
 
-/// Whether a row's event is taken now.
+/// Decides whether a row's event is taken now.
 macro_rules! is_time {
     (always, $machine:ident, $event:ident) => { true };
     (at_its_end, $machine:ident, $event:ident) => { $machine.is_reached($event) };
 }
 
-/// Supervise's state for one service: where it stands, what its status record says, whether it is to end, and until
-/// when it settles or rests. Only the states in which supervise can stand have a machine.
+/// Supervise's state for one service: its phase, what its status record says, whether supervise exits after the
+/// process, and until when it settles or rests. Only possible states have a machine.
 #[derive(Clone, Copy, Debug, PartialEq, Eq)]
 pub struct Machine {
     phase: Phase,
@@ -105,14 +105,14 @@ impl Machine {
     ghost use Rattle.sup_core.specs.Rules.{asks_of, asks_of_begin, is_taken, reaches, takes, next, reply_to, IsEvent};
     ghost use Rattle.sup_core.specs.Asks.{records_in};
 
-    /// Where supervise stands.
+    /// Returns the phase.
     pub fn phase(&self) -> Phase
         ensures { result ≡ self.now.phase }
     {
         self.phase
     }
 
-    /// What its status record says.
+    /// Returns what the status record says.
     pub fn view(&self) -> View
         ensures view { result ≡ self.now.status }
         ensures range { IsStatus result }
@@ -121,7 +121,7 @@ impl Machine {
         view_in_range(&self.view)
     }
 
-    /// What its full status record says.
+    /// Returns what the full status record says.
     pub fn full(&self) -> Full
         ensures full { result ≡ full_in self.now }
         ensures range { IsFull result }
@@ -133,21 +133,21 @@ impl Machine {
         }
     }
 
-    /// Whether supervise is done, and takes nothing more.
+    /// Returns whether supervise is done, and takes nothing more.
     pub fn is_gone(&self) -> bool
         ensures { result ≡ is_gone self.now.phase }
     {
         self.phase == Phase::Gone
     }
 
-    /// Whether supervise is to end once there is no process.
+    /// Returns whether supervise exits once there is no process.
     pub fn exiting(&self) -> bool
         ensures { result ≡ self.now.exiting }
     {
         self.exiting
     }
 
-    /// The end of settling or resting: a clock reading from this label on is taken.
+    /// Returns the end of settling or resting: a clock reading from this label on is taken.
     pub fn until(&self) -> Option<Label>
         ensures until { result ≡ self.now.until }
         ensures range { IfSome result IsLabel }
@@ -158,13 +158,13 @@ impl Machine {
         }
     }
 
-    /// The machine of these parts, where a machine can stand so:
+    /// Returns the machine with these parts, if a machine can be in that state:
     ///
     /// | phase | process | want | exiting | until |
     /// |---|---|---|---|---|
     /// | starting | none | up, once | no | none |
-    /// | settling | one, not paused | up, once | no | one second past the view's label |
-    /// | resting | none | up, once | no | one second past some label |
+    /// | settling | one, not paused | up, once | no | one second past the view's label. |
+    /// | resting | none | up, once | no | one second past some label. |
     /// | up | one | any | any | none |
     /// | down | none | down, once | no | none |
     /// | gone | none | any | yes | none |
@@ -191,7 +191,7 @@ impl Machine {
         }
     }
 
-    /// Whether the machine takes the event. It holds every other event.
+    /// Returns whether the machine takes the event. It holds every other event.
     pub fn takes(&self, event: &Event) -> bool
         ensures taken { (past : History) → state_of past ≡ self.now → result ≡ takes past event.now }
         ensures by_phase { result ≡ is_taken self.now.phase self.now.until event.now }
@@ -199,7 +199,7 @@ impl Machine {
         taken_events!(takes_event(self, event))
     }
 
-    /// Whether a clock reading reaches the end of settling or resting.
+    /// Returns whether a clock reading reaches the end of settling or resting.
     fn is_reached(&self, event: &Event) -> bool
         ensures { result ≡ reaches self.now.until event.now }
     {
@@ -275,7 +275,7 @@ impl Machine {
     /// Takes a clock reading that ends settling or resting.
     fn take_reading(&mut self) -> Asks
         requires { (self.old.phase ≡ Phase.Settling) ⊎ (self.old.phase ≡ Phase.Resting) }
-        // What the clock reads makes no difference.
+        // The value of the clock reading makes no difference.
         ensures state { self.new ≡ state_of (Then (Opened self.old) (Event.Clock self.old.status.label)) }
         ensures asks { result ≡ asks_of (Opened self.old) (Event.Clock self.old.status.label) }
     {
@@ -289,8 +289,8 @@ impl Machine {
         asks
     }
 
-    /// The machine with which supervise begins, with or without a `down` file, and what it asks then: its record, and a
-    /// start where there is no such file.
+    /// Returns the machine with which supervise begins, with or without a `down` file, and what it asks for then: its
+    /// record, and a start if there is no such file.
     pub fn begin(down_file: bool, label: Label) -> (Machine, Asks)
         ensures machine { result.0 ≡ state_of (Begin down_file label) }
         ensures asks { result.1 ≡ asks_of_begin (Begin down_file label) }
@@ -318,27 +318,28 @@ impl Machine {
         (machine, asks)
     }
 
-    /// Takes the event, or holds it and does nothing. The table of the pages on supervise and svc says which.
+    /// Takes the event, or holds it and does nothing. The table of daemontools' pages on supervise and svc says which.
     ///
-    /// The reply and the new state are those of every history that the machine stands for.
+    /// The reply and the new state are right for every history that leads to the machine's state.
     pub fn step(&mut self, event: Event) -> Reply
         requires { IsEvent event }
         ensures reply { (past : History) → state_of past ≡ self.old → result ≡ reply_to past event }
         ensures state { (past : History) → state_of past ≡ self.old → self.new ≡ state_of (next past event) }
 
-        // The record is written where what it says may have changed, and then once, as it stands after the step.
+        // A step writes the record if what the record says may have changed. It writes it once, and with the state
+        // after the step.
         ensures unwritten { records_in result ≡ [] → full_in self.new ≡ full_in self.old }
         ensures written { records_in result ≢ [] → records_in result ≡ full_record (full_in self.new) ∷ [] }
         ensures range { IsFull (full_in self.new) }
     {
-        // What it says is lawful, before and after: `unwritten` stands on the first, and `range` is the second.
+        // What the record says is valid before and after: `unwritten` needs the first, and `range` is the second.
         let _ = self.full();
         let reply = self.advance(event);
         let _ = self.full();
         reply
     }
 
-    /// Takes the event, or holds it.
+    /// Takes the event, or holds it and does nothing.
     fn advance(&mut self, event: Event) -> Reply
         requires { IsEvent event }
         ensures reply { (past : History) → state_of past ≡ self.old → result ≡ reply_to past event }
@@ -356,7 +357,7 @@ impl Machine {
         })
     }
 
-    /// Takes those of these events that are taken, one after another, and holds the others.
+    /// Takes each of these events that can be taken, one after another, and holds the others.
     pub fn run(&mut self, events: &[Event])
         requires { AllByRecursion IsEvent events.now }
         ensures { (past : History) → state_of past ≡ self.old → self.new ≡ state_of (after past events.now) }
@@ -367,7 +368,7 @@ impl Machine {
     }
 }
 
-/// Where a service goes whose process died.
+/// Returns the phase of a service after its process died.
 fn phase_after_death(view: &View, exiting: bool) -> Phase
     requires { view.now.pid ≡ 0 }
     ensures phase { result ≡ phase_after_death view.now exiting }
@@ -382,7 +383,7 @@ fn phase_after_death(view: &View, exiting: bool) -> Phase
     }
 }
 
-/// Where a service goes that has settled or rested.
+/// Returns the phase of a service after it settled or rested.
 fn phase_after_pause(phase: Phase, view: &View, exiting: bool) -> Phase
     requires pauses { (phase ≡ Phase.Settling) ⊎ (phase ≡ Phase.Resting) }
     requires stands { StandsIn phase view.now exiting }
@@ -398,7 +399,7 @@ fn phase_after_pause(phase: Phase, view: &View, exiting: bool) -> Phase
     }
 }
 
-/// The status record of these parts, to be written.
+/// Asks to write the status record of these parts.
 fn record_ask(phase: Phase, view: &View, exiting: bool) -> Ask
     requires { StandsIn phase view.now exiting }
     ensures { result ≡ Ask.Write (full_record (full_with view.now phase exiting)) }
@@ -410,7 +411,7 @@ fn record_ask(phase: Phase, view: &View, exiting: bool) -> Ask
     }))
 }
 
-/// Whether a machine can have these parts.
+/// Returns whether a machine can have these parts.
 fn can_stand(phase: Phase, view: &View, exiting: bool, until: &Option<Label>) -> bool
     ensures { IsTrue result ↔
         IsState (record { phase = phase; status = view.now; exiting = exiting; until = until.now }) }
@@ -418,7 +419,7 @@ fn can_stand(phase: Phase, view: &View, exiting: bool, until: &Option<Label>) ->
     Full::new(*view, phase, exiting).is_some() && can_wait(phase, view, until)
 }
 
-/// Whether a machine can settle or rest until then.
+/// Returns whether a machine can settle or rest until then.
 fn can_wait(phase: Phase, view: &View, until: &Option<Label>) -> bool
     ensures { IsTrue result ↔ WaitsUntil phase view.now until.now }
 {

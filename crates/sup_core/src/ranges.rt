@@ -1,15 +1,15 @@
-//! What types alone say of a value, given to callers as clauses.
+//! Facts about values that follow from their types alone, given to callers as clauses.
 //!
-//! The prover knows the range of a number, and what every label and every view is held to, where the fields are read;
-//! a caller knows it only from a clause. So each function here reads a value, gives it back, and says its range. They
-//! cost nothing when they run.
+//! The prover knows the range of a number and the invariants of each label and view only if code reads their fields. A
+//! caller knows them only from a clause. Therefore each function here reads a value, returns it, and states its range.
+//! They cost nothing at run time.
 ghost use Rattle.std.specs.Prelude.{◌≡◌, ◌^◌, ◌<◌};
 ghost use Rattle.tai_status.specs.Label.{IsLabel};
 ghost use Rattle.tai_status.specs.Record.{IsStatus};
 
 use tai_status::{Label, View};
 
-/// A view, whose record can be read again.
+/// Returns a view with its range, so its record can be read again.
 pub(crate) fn view_in_range(view: &View) -> View
     ensures view { result ≡ view.now }
     ensures range { IsStatus result }
@@ -22,7 +22,7 @@ pub(crate) fn view_in_range(view: &View) -> View
     }
 }
 
-/// A label, whose text can be read again.
+/// Returns a label with its range, so its text can be read again.
 pub(crate) fn label_in_range(label: &Label) -> Label
     ensures label { result ≡ label.now }
     ensures range { IsLabel result }
@@ -33,7 +33,7 @@ pub(crate) fn label_in_range(label: &Label) -> Label
     }
 }
 
-/// A process number, which fits its type.
+/// Returns a process number with its range: it fits its type.
 fn pid_in_range(pid: u32) -> u32
     ensures pid { result ≡ pid }
     ensures range { result < 2 ^ 32 }

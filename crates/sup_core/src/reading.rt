@@ -22,12 +22,12 @@ use itoa::Buffer;
 use std::str;
 use tai_status::{Label, Phase, read_text};
 
-/// Why a line is the text of nothing. The first of these that applies is reported.
+/// Why a line spells nothing. The first one that applies is reported.
 #[derive(Clone, Copy, Debug, PartialEq, Eq)]
 pub enum EventFault {
     /// The first word is not known.
     UnknownEvent,
-    /// The number of fields is wrong, or a field that is neither a number nor a label.
+    /// The number of fields is wrong, or a field that should be no number and no label.
     Line,
     /// The process number is wrong.
     Number,
@@ -45,7 +45,7 @@ enum Word {
     Clock,
 }
 
-/// The signal of a name among these.
+/// Finds the signal with a name, among these.
 macro_rules! signal_named {
     (($name:expr) $($signal:ident $text:literal;)*) => {
         match $name {
@@ -55,7 +55,7 @@ macro_rules! signal_named {
     };
 }
 
-/// The signal of this name.
+/// Returns the signal with this name.
 pub fn read_sig(name: &[u8]) -> Option<Sig>
     ensures found { IfSome result (λ sig. name.now ≡ signal_name sig) }
     ensures only { (sig : Sig) → name.now ≡ signal_name sig → result ≡ Some sig }
@@ -63,7 +63,7 @@ pub fn read_sig(name: &[u8]) -> Option<Sig>
     signals!(signal_named(name))
 }
 
-/// The phase of this name.
+/// Returns the phase with this name.
 pub fn read_phase(name: &[u8]) -> Option<Phase>
     ensures found { IfSome result (λ phase. name.now ≡ phase_name phase) }
     ensures only { (phase : Phase) → name.now ≡ phase_name phase → result ≡ Some phase }
@@ -79,8 +79,7 @@ pub fn read_phase(name: &[u8]) -> Option<Phase>
     }
 }
 
-/// The byte that this is the text of: one from `!` to `~` is itself, and any other is its two lower-case
-/// hexadecimal digits.
+/// Reads the text of a byte: a byte from `!` to `~` is itself, and any other is its two lower-case hexadecimal digits.
 pub fn read_byte(text: &[u8]) -> Option<u8>
     ensures found { IfSome result (λ byte. text.now ≡ byte_text byte) }
     ensures only { (byte : ℕ) → byte < 2 ^ 8 → text.now ≡ byte_text byte → result ≡ Some byte }
@@ -94,14 +93,14 @@ pub fn read_byte(text: &[u8]) -> Option<u8>
     }
 }
 
-/// Whether this is the text of a byte.
+/// Returns whether this is the text of a byte.
 fn is_byte_text(text: &[u8], byte: u8) -> bool
     ensures { IsTrue result ↔ (text.now ≡ byte_text byte) }
 {
     byte_text(byte).as_bytes() == text
 }
 
-/// The byte that this can be the text of.
+/// Returns the only byte that can have this text.
 #[tactic(auto, using(crate::proofs::Spelling::text_of_one, crate::proofs::Spelling::text_of_two))]
 fn byte_meant(text: &[u8]) -> Option<u8>
     ensures { (byte : ℕ) → byte < 2 ^ 8 → text.now ≡ byte_text byte → result ≡ Some byte }
@@ -112,7 +111,7 @@ fn byte_meant(text: &[u8]) -> Option<u8>
     }
 }
 
-/// The byte of two digits.
+/// Returns the byte of two digits.
 #[tactic(auto, using(crate::proofs::Spelling::digits_read))]
 fn digits_meant(digits: &[u8]) -> Option<u8>
     ensures { (byte : ℕ) → byte < 2 ^ 8 → digits.now ≡ encode_lower (byte ∷ []) → result ≡ Some byte }
@@ -121,7 +120,7 @@ fn digits_meant(digits: &[u8]) -> Option<u8>
     Some(bytes[0])
 }
 
-/// The number of at least 1 whose decimal text this is.
+/// Reads the decimal text of a number that is at least 1.
 fn read_pid(text: &[u8]) -> Option<u32>
     ensures { result ≡ pid_of_text text.now }
 {
@@ -132,7 +131,7 @@ fn read_pid(text: &[u8]) -> Option<u32>
     u32::try_from(number).ok()
 }
 
-/// The number whose decimal text this is: digits alone, with no leading zero but in `0` itself.
+/// Reads the decimal text of a number: digits alone, with no leading zero except in `0` itself.
 pub fn read_number(text: &[u8]) -> Option<u64>
     ensures found { IfSome result (λ n. text.now ≡ decimal n) }
     ensures only { (n : ℕ) → n < 2 ^ 64 → text.now ≡ decimal n → result ≡ Some n }
@@ -146,7 +145,7 @@ pub fn read_number(text: &[u8]) -> Option<u64>
     }
 }
 
-/// A number that the field is a text of, perhaps not its decimal text.
+/// Reads a number from a field, which may be other than the number's decimal text.
 fn parse_number(field: &[u8]) -> Option<u64>
     ensures { (n : ℕ) → n < 2 ^ 64 → field.now ≡ decimal n → result ≡ Some n }
 {
@@ -156,7 +155,7 @@ fn parse_number(field: &[u8]) -> Option<u64>
     }
 }
 
-/// The label whose text this is: `@` and its 24 lower-case hexadecimal digits.
+/// Reads the text of a label: `@` and its 24 lower-case hexadecimal digits.
 #[tactic(auto, unfolding(crate::specs::Reading::label_of_text))]
 pub fn read_label(text: &[u8]) -> Option<Label>
     ensures found { IfSome result (λ label. IsLabel label × (text.now ≡ label_text label)) }
@@ -166,7 +165,7 @@ pub fn read_label(text: &[u8]) -> Option<Label>
     read_text(text).ok()
 }
 
-/// Where the first space is.
+/// Returns the place of the first space.
 fn space_at(line: &[u8]) -> Option<usize>
     ensures at { result ≡ position (λ byte. byte == 32) line.now }
     ensures below { IfSome result (λ at. at < length line.now) }
@@ -174,8 +173,8 @@ fn space_at(line: &[u8]) -> Option<usize>
     line.iter().position(|byte| *byte == b' ')
 }
 
-/// The first field of a line, and what comes after its space, if there is one. Fields are parted by one space, so two
-/// spaces have an empty field between them.
+/// Splits a line into its first field and what comes after its space, if there is one. One space separates two fields,
+/// so two spaces have an empty field between them.
 #[tactic(auto, using(crate::proofs::Fields::split_none, crate::proofs::Fields::split_some))]
 pub fn split_field(line: &[u8]) -> (&[u8], Option<&[u8]>)
     ensures { fields line.now ≡ result.0.now ∷ fields_after (option_copied result.1) }
@@ -186,7 +185,7 @@ pub fn split_field(line: &[u8]) -> (&[u8], Option<&[u8]>)
     }
 }
 
-/// The field, where there is just one left.
+/// Returns the field, if just one is left.
 #[tactic(auto, using(crate::proofs::Fields::sole_many))]
 fn sole(rest: Option<&[u8]>) -> Option<&[u8]>
     ensures { option_copied result ≡ sole (fields_after (option_copied rest.entry)) }
@@ -197,7 +196,7 @@ fn sole(rest: Option<&[u8]>) -> Option<&[u8]>
     }
 }
 
-/// The label that is the one field left.
+/// Reads the label, if one field is left.
 fn sole_label(rest: Option<&[u8]>) -> Result<Label, EventFault>
     ensures { result ≡ sole_label (fields_after (option_copied rest.entry)) }
 {
@@ -205,7 +204,7 @@ fn sole_label(rest: Option<&[u8]>) -> Result<Label, EventFault>
     read_label(text).ok_or(EventFault::Label)
 }
 
-/// The byte that is the one field left.
+/// Reads the byte, if one field is left.
 fn sole_byte(rest: Option<&[u8]>) -> Result<u8, EventFault>
     ensures { result ≡ sole_byte (fields_after (option_copied rest.entry)) }
 {
@@ -213,7 +212,7 @@ fn sole_byte(rest: Option<&[u8]>) -> Result<u8, EventFault>
     read_byte(text).ok_or(EventFault::Line)
 }
 
-/// The start of the two fields left.
+/// Reads the start from the two fields left.
 fn read_start(rest: Option<&[u8]>) -> Result<Event, EventFault>
     ensures { let left = fields_after (option_copied rest.entry) in
         result ≡ ok_or (start_event left) (start_fault left) }
@@ -225,7 +224,7 @@ fn read_start(rest: Option<&[u8]>) -> Result<Event, EventFault>
     Ok(Event::Started { pid, label })
 }
 
-/// The event of a line, without its newline. Fields are parted by one space:
+/// Reads the event of a line, without its newline. Fields are separated by one space:
 ///
 /// | line | event |
 /// |---|---|
@@ -237,14 +236,14 @@ fn read_start(rest: Option<&[u8]>) -> Result<Event, EventFault>
 pub fn read_event(line: &[u8]) -> Result<Event, EventFault>
     ensures found { IfOk result (λ event. IsInRange event × (line.now ≡ event_text event)) }
     ensures only { (event : Event) → IsInRange event → line.now ≡ event_text event → result ≡ Ok event }
-    // Which fault it is.
+    // The first fault is returned.
     ensures exact { result ≡ event_from (fields line.now) }
     ensures event { IfOk result IsEvent }
 {
     parse_event(line)
 }
 
-/// The event of a line, by its fields.
+/// Reads the event of a line, by its fields.
 fn parse_event(line: &[u8]) -> Result<Event, EventFault>
     ensures { result ≡ event_from (fields line.now) }
 {
@@ -255,7 +254,7 @@ fn parse_event(line: &[u8]) -> Result<Event, EventFault>
     }
 }
 
-/// The first word of an event's line.
+/// Reads the first word of an event's line.
 fn read_word(text: &[u8]) -> Option<Word>
     ensures found { IfSome result (λ word. text.now ≡ word_name word) }
     ensures only { (word : Word) → text.now ≡ word_name word → result ≡ Some word }
@@ -270,7 +269,7 @@ fn read_word(text: &[u8]) -> Option<Word>
     }
 }
 
-/// The event of a first word and what comes after its space.
+/// Reads the event with a first word and what comes after its space.
 fn read_rest(word: Word, rest: Option<&[u8]>) -> Result<Event, EventFault>
     ensures { result ≡ event_from (word_name word ∷ fields_after (option_copied rest.entry)) }
 {
@@ -289,19 +288,19 @@ fn read_rest(word: Word, rest: Option<&[u8]>) -> Result<Event, EventFault>
     }
 }
 
-/// Whether there is a `down` file, and the label, of a line `begin up LABEL` or `begin down LABEL`, without its
-/// newline.
+/// Reads a line `begin up LABEL` or `begin down LABEL`, without its newline. Returns whether there is a `down` file,
+/// and the label.
 pub fn read_begin(line: &[u8]) -> Result<(bool, Label), EventFault>
     ensures found { IfOk result (λ (down, label). IsLabel label × (line.now ≡ begin_text down label)) }
     ensures only { (down : Bool) (label : Tai64n) → IsLabel label → line.now ≡ begin_text down label
         → result ≡ Ok (down, label) }
-    // Which fault it is.
+    // The first fault is returned.
     ensures exact { result ≡ begin_from (fields line.now) }
 {
     parse_begin(line)
 }
 
-/// The beginning of a line, by its fields.
+/// Reads the beginning of a line, by its fields.
 fn parse_begin(line: &[u8]) -> Result<(bool, Label), EventFault>
     ensures { result ≡ begin_from (fields line.now) }
 {
@@ -312,7 +311,7 @@ fn parse_begin(line: &[u8]) -> Result<(bool, Label), EventFault>
     }
 }
 
-/// Whether there is a `down` file, and the label, of the two fields left.
+/// Reads the two fields left: whether there is a `down` file, and the label.
 fn read_side(rest: Option<&[u8]>) -> Result<(bool, Label), EventFault>
     ensures { let left = fields_after (option_copied rest.entry) in
         result ≡ ok_or (side_event left) (side_fault left) }

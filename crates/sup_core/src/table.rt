@@ -8,10 +8,10 @@ use crate::asks::Sig;
 use crate::text::push_byte;
 use arrayvec::ArrayString;
 
-/// The control bytes, in the order in which the table is printed. Each row says what is asked and what changes if there
-/// is a process, and if there is none. Another byte asks nothing and changes nothing.
+/// The control bytes, in the order in which the table is printed. Each row says what is asked for and what changes if
+/// there is a process, and if there is none. Any other byte asks for nothing and changes nothing.
 ///
-/// The list is handed to the macro that is named, after its arguments.
+/// This macro passes the list to the macro that its caller names, after that macro's arguments.
 macro_rules! control_bytes {
     ($rows:ident $arguments:tt) => {
         $rows! {
@@ -54,7 +54,7 @@ macro_rules! taken_events {
 
 pub(crate) use taken_events;
 
-/// What a row asks, in words.
+/// What a row asks for, in words.
 macro_rules! row_words {
     () => { "nothing" };
     ($($ask:ident)+) => { stringify!($($ask)+) };
@@ -90,34 +90,34 @@ macro_rules! one {
     ($row:literal) => { 1 };
 }
 
-/// How many rows there are.
+/// The number of rows.
 macro_rules! count_of {
     (() $($row:literal running $asks:tt $change:tt idle $idle_asks:tt $idle_change:tt;)*) => {
         0 $(+ one!($row))*
     };
 }
 
-/// How many control bytes there are.
+/// The number of control bytes.
 pub const LETTER_COUNT: usize = control_bytes!(count_of());
 
 /// The control bytes.
 const LETTERS: [u8; LETTER_COUNT] = control_bytes!(letters_of());
 
-/// The control bytes, in the order in which the table is printed.
+/// Returns the control bytes, in the order in which the table is printed.
 pub fn letters() -> &'static [u8]
     ensures { result.now ≡ letters }
 {
     &LETTERS
 }
 
-/// Whether a byte is a control byte.
+/// Returns whether a byte is a control byte.
 pub fn is_letter(byte: u8) -> bool
     ensures { result ≡ is_letter byte }
 {
     LETTERS.contains(&byte)
 }
 
-/// The first signal of what a row asks.
+/// The first signal that a row asks for.
 macro_rules! first_signal {
     () => { None };
     (record $($ask:ident)*) => { None };
@@ -137,14 +137,14 @@ macro_rules! signal_at {
     };
 }
 
-/// The signal that a byte sends first, where it sends one to a process.
+/// Returns the first signal that a byte sends to a process, if it sends one.
 pub fn signal_of(byte: u8) -> Option<Sig>
     ensures { result ≡ signal_of byte }
 {
     control_bytes!(signal_at(byte))
 }
 
-/// What a byte asks, in words.
+/// Returns what a byte asks for, in words.
 fn asked(byte: u8, running: bool) -> &'static str
     ensures words { result.now ≡ names_text (asked_names byte running) }
     ensures short { length result.now ≤ 16 }
@@ -152,7 +152,7 @@ fn asked(byte: u8, running: bool) -> &'static str
     control_bytes!(words_of(byte, running))
 }
 
-/// What names a side of the table.
+/// Returns the heading of a side of the table.
 fn side(running: bool) -> &'static str
     ensures text { result.now ≡ (if running then codes " running: " else codes " idle: ") }
     ensures short { length result.now ≤ 10 }
@@ -160,12 +160,13 @@ fn side(running: bool) -> &'static str
     if running { " running: " } else { " idle: " }
 }
 
-/// The line of a control byte in the printed table: what it asks where there is a process, or where there is none.
+/// Returns the line of a control byte in the printed table: what it asks for if there is a process, or if there is
+/// none.
 ///
-/// An unknown byte has a line too, on which nothing is asked.
+/// A byte that is no control byte has a line too, which asks for nothing.
 pub fn table_line(byte: u8, running: bool) -> ArrayString<48>
     ensures line { result.bytes ≡ table_text byte running }
-    // The words are the names of what is asked.
+    // The words are the names of what is asked for.
     ensures rules { (past : History) → runs past ≡ running
         → asked_names byte running ≡ map ask_name (asks_of past (Byte byte)) }
 {

@@ -18,7 +18,7 @@ use std::error::Error;
 use std::{fmt, str};
 use tai_status::{Label, Phase, phase_name, text};
 
-/// The name of a signal among these.
+/// The name of a signal, among these.
 macro_rules! name_of {
     (($sig:expr) $($name:ident $text:literal;)*) => {
         match $sig {
@@ -27,7 +27,7 @@ macro_rules! name_of {
     };
 }
 
-/// The name of a signal, without its `SIG`.
+/// Returns the name of a signal, without `SIG`.
 pub fn sig_name(sig: Sig) -> &'static str
     ensures name { result.now ≡ signal_name sig }
     ensures short { length result.now ≤ 6 }
@@ -35,7 +35,7 @@ pub fn sig_name(sig: Sig) -> &'static str
     signals!(name_of(sig))
 }
 
-/// The name of why a line is refused.
+/// Returns the name of a fault in a line.
 pub fn fault_name(why: EventFault) -> &'static str
     ensures name { result.now ≡ fault_name why }
     ensures short { length result.now ≤ 12 }
@@ -94,7 +94,7 @@ impl fmt::Display for Ask {
     }
 }
 
-/// ASCII bytes as a text.
+/// Returns ASCII bytes as a text.
 fn ascii(bytes: &[u8]) -> &str
     requires { IsAscii bytes.now }
     ensures { result.now ≡ bytes.now }
@@ -125,7 +125,7 @@ fn push_label<const N: usize>(out: &mut ArrayString<N>, label: &Label)
     out.push_str(ascii(&bytes));
 }
 
-/// The text of a byte: one from `!` to `~` is itself, and any other is its two lower-case hexadecimal digits.
+/// Returns the text of a byte: one from `!` to `~` is itself, and any other is its two lower-case hexadecimal digits.
 pub fn byte_text(byte: u8) -> ArrayString<2>
     ensures { result.bytes ≡ byte_text byte }
 {
@@ -150,7 +150,7 @@ pub(crate) fn push_byte<const N: usize>(out: &mut ArrayString<N>, byte: u8)
     }
 }
 
-/// The line of an event, without its newline: the one that `read_event` reads as this event.
+/// Returns the line of an event, without its newline. `read_event` reads this line as this event.
 pub fn event_text(event: &Event) -> ArrayString<48>
     ensures text { result.bytes ≡ event_text event.now }
     // Such a line is read as the event.
@@ -184,7 +184,7 @@ pub fn event_text(event: &Event) -> ArrayString<48>
     out
 }
 
-/// The text of an ask, as an answer has it.
+/// Returns the text of an ask in an answer.
 fn ask_text(ask: &Ask) -> ArrayString<47>
     ensures { result.bytes ≡ ask_text ask.now }
 {
@@ -224,8 +224,9 @@ fn push_record<const N: usize>(out: &mut ArrayString<N>, bytes: &[u8; 20])
     out.push_str(ascii(&digits));
 }
 
-/// The answer to an event, after which the machine is in this phase: `held`, or `took` and each ask after a space, then
-/// the phase after ` -> `. An ask is `TERM:PID` or another signal, `start`, or `record:` and its digits.
+/// Returns the answer to an event, with the phase of the machine after it. The text is `held`, or `took` and each ask
+/// after a space, then the phase after ` -> `. An ask is `TERM:PID` or another signal, `start`, or `record:` and its
+/// digits.
 pub fn answer_text(reply: &Reply, phase: Phase) -> ArrayString<128>
     ensures { result.bytes ≡ answer_text reply.now phase }
 {
@@ -238,7 +239,8 @@ pub fn answer_text(reply: &Reply, phase: Phase) -> ArrayString<128>
     out
 }
 
-/// The answer to an event that was taken, or to a beginning, by what it asked: as `answer_text` has it.
+/// Returns the answer to an event that was taken, or to a beginning, from what it asked for. It has the form of
+/// `answer_text`.
 pub fn took_text(asks: &Asks, phase: Phase) -> ArrayString<128>
     ensures { result.bytes ≡ answer_text (Reply.Took asks.now) phase }
 {
@@ -257,7 +259,7 @@ fn push_phase(out: &mut ArrayString<128>, phase: Phase)
     out.push_str(phase_name(phase));
 }
 
-/// Writes that an event was taken, and what it asked.
+/// Writes that an event was taken, and what it asked for.
 fn push_asks(out: &mut ArrayString<128>, asks: &Asks)
     requires { out.old.bytes ≡ [] }
     ensures text { out.new.bytes ≡ codes "took" ++ asks_text asks.now }

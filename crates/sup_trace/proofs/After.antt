@@ -1,4 +1,4 @@
--- Traces of a machine after events, each of which is taken: `trace_after`.
+-- Traces of a machine after events that are all taken: `trace_after`.
 use Rattle.std.proofs.Common.{◌≡◌, ℕ, ◌-◌, ◌<◌, ◌≤◌, true, false, List, [], ◌∷◌, ◌++◌, refl, sym, ◌∙◌, arith}
 use Rattle.std.proofs.Common.{if◌then◌else◌}
 use Rattle.std.specs.List.{AllByRecursion}
@@ -42,7 +42,7 @@ pub trace_after-append : (machine : State) (capacity : ℕ) (xs ys : List Event)
     → trace_after machine capacity (xs ++ ys) ≡ noted (trace_after machine capacity xs) ys
 trace_after-append machine capacity xs ys = sym (noted-noted (new_trace machine capacity) xs ys)
 
--- What is taken and answered after a trace is so after its whole history.
+-- What is taken, and the reply to it, are the same after a trace as after its whole history.
 pub takes-trace_after : (machine : State) (capacity : ℕ) (events : List Event) (event : Event)
     → takes (history_of (trace_after machine capacity events)) event ≡ takes (followed_by (Opened machine) events) event
 takes-trace_after machine capacity events event =
@@ -67,7 +67,7 @@ pub IsTrace-trace_after : (machine : State) (capacity : ℕ) (events : List Even
 IsTrace-trace_after machine capacity events room limit taken =
     IsTrace-noted (new_trace machine capacity) events (IsTrace-new machine capacity room limit) taken
 
--- whatever the events are
+-- the same for any events
 pub noted_along-new : (machine : State) (capacity : ℕ) (events : List Event) → 0 < capacity → capacity ≤ 65536
     → AllByRecursion IsEvent events
     → noted_along (new_trace machine capacity) events ≡ trace_after machine capacity (taken_of (Opened machine) events)

@@ -1,4 +1,4 @@
--- What is read is reported so: a text that is read is the text of what it says.
+-- What is read is written so: a text that is read is the text of what it says.
 use Rattle.std.proofs.Common.{◌≡◌, ℕ, ◌+◌, ◌^◌, ◌<◌, ◌≤◌, ◌==◌, nat_lt, Bool, true, false, not, List, [], ◌∷◌, ◌++◌}
 use Rattle.std.proofs.Common.{map, flat_map, append_assoc, length, Option, Some, None, Result, Ok, Err, refl, sym, ap}
 use Rattle.std.proofs.Common.{◌∙◌, arith, codes, decimal, subst, ◌⊎◌, inl, inr, ⊎_elim}
@@ -177,7 +177,7 @@ later_spelt content line more (word ∷ rest) is h =
       | false ↦ λ at h. inr (entry_spelt content line more _ (ap event_from is) h)
     ] refl h
 
--- What was reported is so, and these are its lines.
+-- The content is valid, and these are its lines.
 abbrev IsHeard : Heard → List (List ℕ) → Type 0
 IsHeard Nothing lines = lines ≡ []
 IsHeard Header lines = lines ≡ header ∷ []
@@ -301,7 +301,7 @@ join_lines (line ∷ []) = sym (append-nil (line ++ 10 ∷ []))
 join_lines (line ∷ next ∷ lines) =
     ap (λ (rest : List ℕ). line ++ 10 ∷ rest) (join_lines (next ∷ lines)) ∙ sym (append_assoc line (10 ∷ []) _)
 
--- What a text is read as has that text.
+-- The content that a text is read as has that text.
 pub content_from-found : (text : List ℕ) (content : Content) → content_from text ≡ Ok content → IsContent content
     × (text ≡ trace_text content)
 content_from-found text content is =
@@ -345,7 +345,7 @@ join_front (line ∷ lines) rest some =
     ∙ sym (append_assoc line (10 ∷ []) (lines_text lines ++ last))
     ∙ sym (append_assoc (line ++ 10 ∷ []) (lines_text lines) last)
 
--- Where an entry is read, the text has an entry.
+-- If an entry is read, the text has an entry.
 has_entry : (text : List ℕ) (at : ℕ) → ReadsEntry at 1 Nothing (parts_of text) → HasEntryAt text at
 has_entry text at reads =
     let content = reads.content in

@@ -1,4 +1,4 @@
--- Laws of traces, as events are taken.
+-- Laws of traces when events are taken.
 use Rattle.std.proofs.Common.{◌≡◌, ℕ, ◌+◌, ◌-◌, ◌^◌, ◌<◌, ◌≤◌, true, false, List, [], ◌∷◌, ◌++◌, length, take, drop}
 use Rattle.std.proofs.Common.{min, nat_lt, refl, sym, subst, ap, ◌∙◌, arith, length-append, length-drop, lit≤}
 use Rattle.std.proofs.Common.{append_assoc, if◌then◌else◌, Option, Some, None, slice_get}
@@ -25,7 +25,7 @@ use Rattle.sup_trace.specs.Content.{IsContent}
 use Rattle.sup_trace.specs.Trace.{Kept, IsTrace, IsKeptUp, history_of, content_by, replay, folded_into, cut, noted}
 use Rattle.sup_trace.specs.Trace.{noted_if_taken, noted_along, new_trace}
 
--- A base with the first events folded in, and the others, replay to what the whole replays to.
+-- A base with the first events folded into it, followed by the other events, replays to what the whole replays to.
 pub replay-cut : (base : State) (events : List Event) (n : ℕ)
     → state_of (followed_by (Opened (folded_into base (take n events))) (drop n events))
     ≡ state_of (followed_by (Opened base) events)
@@ -35,7 +35,7 @@ replay-cut base events n =
     ∙ ap state_of (sym (followed_by-append (Opened base) (take n events) (drop n events)))
     ∙ ap (λ (all : List Event). state_of (followed_by (Opened base) all)) (take-append-drop n events)
 
--- Taking events into a trace takes them after its history.
+-- When a trace takes events, it replays to the machine after its history and these events.
 pub replay-noted : (kept : Kept) (events : List Event)
     → replay (noted kept events) ≡ state_of (followed_by (history_of kept) events)
 replay-noted kept events =
@@ -58,7 +58,7 @@ IsTrace-noted kept events trace taken =
       count = omega (arith);
     }
 
--- Where the entries fit, one more is kept.
+-- If the entries are not full, one more is kept.
 pub noted-room : (kept : Kept) (event : Event) → IsTrace kept → length kept.entries < kept.capacity
     → noted kept (event ∷ []) ≡ record {
       base = kept.base;
@@ -72,7 +72,7 @@ noted-room kept event trace room =
     let same : min (kept.folded + 0) (2 ^ 63) ≡ kept.folded = omega (arith, trace.count) in
     rw none (rw same refl)
 
--- Where they are full, the oldest is folded into the base.
+-- If they are full, the oldest one is folded into the base.
 pub full-cut : (base : State) (entries : List Event) (event oldest : Event) → AreTaken (Opened base) entries
     → IsEvent event → takes (followed_by (Opened base) entries) event ≡ true
     → Some oldest ≡ slice_get (entries ++ event ∷ []) 0
@@ -142,7 +142,7 @@ base-cut base all whole ys n m c first same sum =
     ∙ sym (state_of-cut (Opened base) (take n whole) (take m (drop n whole)))
     ∙ ap (λ (l : List Event). folded_into base l) (sym (take-add n m whole) ∙ ap (λ (k : ℕ). take k whole) sum)
 
--- Taking events in two goes is taking them in one.
+-- Taking events in two groups is the same as taking them in one.
 pub noted-noted : (kept : Kept) (xs ys : List Event) → noted (noted kept xs) ys ≡ noted kept (xs ++ ys)
 noted-noted kept xs ys =
     let all = kept.entries ++ xs in
@@ -190,7 +190,7 @@ noted_along-taken kept (event ∷ events) trace conditions =
       | false ↦ λ is. noted_along-taken kept events trace conditions.1
     ] refl
 
--- A trace holds its events over the history that it began with.
+-- A trace continues the history that it began with.
 pub replay-noted_along : (kept : Kept) (events : List Event) → replay (noted_along kept events)
     ≡ state_of (after (history_of kept) events)
 replay-noted_along kept [] = refl
@@ -222,7 +222,7 @@ IsTrace-new base capacity room limit = record {
   count = lit≤ tt;
 }
 
--- A trace after an event, where it is taken and where it is not.
+-- A trace after an event that is taken, and after one that is not.
 pub noted_if_taken-taken : (kept : Kept) (event : Event) → takes (history_of kept) event ≡ true
     → noted_if_taken kept event ≡ noted kept (event ∷ [])
 noted_if_taken-taken kept event taken = rw taken refl
@@ -242,7 +242,7 @@ replay-noted_if_taken kept event =
       | false ↦ refl
     ]
 
--- Events in two goes
+-- Events in two groups
 pub noted_along-append : (kept : Kept) (xs ys : List Event) → noted_along kept (xs ++ ys)
     ≡ noted_along (noted_along kept xs) ys
 noted_along-append kept [] ys = refl
@@ -256,7 +256,7 @@ IsTrace-noted_along kept (event ∷ events) trace conditions =
     IsTrace-noted_along (noted_if_taken kept event) events (IsTrace-noted_if_taken kept event trace conditions.0)
     conditions.1
 
--- What is taken and answered after a trace is so after its whole history.
+-- What is taken, and the reply to it, are the same after a trace as after its whole history.
 pub takes-noted : (kept : Kept) (events : List Event) (event : Event)
     → takes (history_of (noted kept events)) event ≡ takes (followed_by (history_of kept) events) event
 takes-noted kept events event =
@@ -268,7 +268,7 @@ reply_to-noted kept events event =
     reply_to-state (history_of (noted kept events)) (followed_by (history_of kept) events) event
     (replay-noted kept events)
 
--- The text of a trace says so: what the types of machines and events hold by themselves are the premises.
+-- The text of a trace has valid content. The premises are what the types of machines and events guarantee.
 pub IsContent-content_by : (kept : Kept) → IsTrace kept → IsState kept.base → IsStatus kept.base.status
     → IfSome kept.base.until IsLabel
     → AllByRecursion IsInRange kept.entries → IsContent (content_by kept)
@@ -282,7 +282,7 @@ IsContent-content_by kept trace state status until ranges = record {
   ranges = ranges;
 }
 
--- What the answer to an event says of the trace
+-- What the reply to an event shows about the trace
 pub taken-answered : (kept : Kept) (event : Event) (machine : State) (reply : Reply) (asks : List Ask)
     → machine ≡ replay kept
     → ((past : History) → state_of past ≡ machine → reply ≡ reply_to past event) → reply ≡ Took asks
@@ -309,7 +309,7 @@ pub IsKeptUp-held : (kept : Kept) (event : Event) (after : State) → IsTrace ke
 IsKeptUp-held kept event after trace held stepped =
     record { trace = trace; replayed = stepped ∙ rw held refl }
 
--- what a trace that is seen as another keeps
+-- what a trace keeps, if it is known by an equal one
 pub noted-seen : (kept seen : Kept) (event : Event) → kept ≡ seen → takes (history_of kept) event ≡ true
     → noted kept (event ∷ []) ≡ noted_if_taken seen event
 noted-seen kept seen event same taken =

@@ -1,8 +1,8 @@
--- What holds of each item of a list.
+-- Facts of each item of a list.
 use Rattle.std.proofs.Common.{List, [], ◌∷◌, ◌++◌}
 use Rattle.std.specs.List.{AllByRecursion}
 
--- what holds of two lists joined holds of both
+-- a fact of all items of two joined lists is a fact of all items of both
 pub AllByRecursion-left : {X : Type 0} (P : X → Type 0) (xs ys : List X) → AllByRecursion P (xs ++ ys)
     → AllByRecursion P xs
 AllByRecursion-left P [] ys h = tt

@@ -1,4 +1,4 @@
--- The fields of the base's line: what is reported is read, and what is read is reported so.
+-- The fields of the base's line: what is written is read, and what is read is written so.
 use Rattle.std.proofs.Common.{◌≡◌, ℕ, ◌^◌, ◌≤◌, ◌&&◌, ◌==◌, nat_le, Bool, true, false, List, [], ◌∷◌, Option, Some}
 use Rattle.std.proofs.Common.{None, Result, Ok, Err, refl, sym, ap, ◌∙◌, arith, decimal, codes, subst}
 use Rattle.std.specs.Prelude.{IfSome, IfOk, if◌then◌else◌, bytes_eq, option_map}
@@ -28,7 +28,7 @@ use Rattle.sup_trace.specs.Reading.{folded_of_text, phase_of_text, if_spelled, s
 use Rattle.sup_trace.specs.Reading.{exiting_of_text, until_of_text, base_result}
 use Rattle.sup_trace.specs.declared.fault.TraceFaultKind.TheVariants as kind
 
--- Answers that are tested
+-- Results that are tested
 
 tested : {A : Type 0} (R : A → Type 0) (test : Bool) (x : A) → (test ≡ true → R x)
     → IfSome (if test then Some x else None) R
@@ -157,7 +157,7 @@ status_of_text-only text status h =
     ∙ ap (λ (r : Result Status RecordFault). if_spelled text (result_ok r)) read
     ∙ ap (λ (b : Bool). if b then Some status else None) same
 
--- Whether the machine is to end
+-- Whether supervise exits after the process
 
 stayed : (text : List ℕ) (a b : Bool) → text ≡ stay_text a → Some a ≡ Some b → text ≡ stay_text b
 stayed text a b is same = let e : a ≡ b = cc same in is ∙ ap stay_text e

@@ -1,4 +1,4 @@
--- A replay at a place: the machine before the entry there, what is answered, and the line of it.
+-- A replay at a place: the machine before the entry there, the reply, and the entry's line.
 use Rattle.std.proofs.Common.{◌≡◌, ℕ, ◌+◌, ◌-◌, ◌<◌, ◌≤◌, List, [], ◌∷◌, ◌++◌, length, take, map, get_or, Some}
 use Rattle.std.proofs.Common.{slice_get, Result, Ok, Err, codes, append_assoc, subst, sym, ap, ◌∙◌, arith, refl, inl}
 use Rattle.std.proofs.Common.{inr, zero-add}
@@ -61,13 +61,13 @@ explained-more content place event below at =
     ∙ ap (λ p. map line (take place placed) ++ line p ∷ []) here
     ∙ ap (λ lines. lines ++ explained_line content place event ∷ []) (sym (take-map line place placed))
 
--- the answer as it is made
+-- the reply as the code makes it
 pub answer-made : (past : History) (event : Event) (reply : Reply) (phase : Phase) → reply ≡ reply_to past event
     → phase ≡ phase_of (next past event) → answer_text reply phase ≡ answer_at past event
 answer-made past event reply phase answered led =
     ap (λ (r : Reply). answer_text r phase) answered ∙ ap (λ (p : Phase). answer_text (reply_to past event) p) led
 
--- the line as it is made, of texts that are shown
+-- the line as the code makes it, from texts that are shown
 pub line-made : {L E : Type 0} (bytes : L → List ℕ) (r : Result L E) (number shown content event answer : List ℕ)
     → shown ≡ event → content ≡ answer
     → IfOk r (λ line. bytes line ≡ number ++ (codes " " ++ (shown ++ (codes ": " ++ content))))
@@ -99,7 +99,7 @@ breaks_here : (content : Content) (at : Break) (place : ℕ) (event : Event) →
 breaks_here content at place event entry breaks =
     subst (λ found. IsSomeAnd found (Breaks at (before content place))) (sym entry.here) breaks
 
--- an entry that is not what is looked for
+-- an entry that does not meet the break
 pub no_break : (content : Content) (at : Break) (place : ℕ) (event : Event) → IsEntry content place event
     → ¬ Breaks at (before content place) event → ¬ BreaksAt content at place
 no_break content at place event entry none breaks =

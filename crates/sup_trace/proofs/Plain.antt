@@ -1,4 +1,4 @@
--- The lines of traces and of what explains them have no newline.
+-- The lines of traces, and the lines that explain them, have no newline.
 use Rattle.std.proofs.Common.{ℕ, ◌+◌, length, Option, Some, None, Bool, true, false, List, [], ◌∷◌, ◌++◌, map, refl}
 use Rattle.std.proofs.Common.{decimal, codes}
 use Rattle.std.specs.List.{AllByRecursion, enumerate_from}

@@ -1,4 +1,4 @@
--- Reading goes on from line to line.
+-- Reading from line to line.
 use Rattle.std.proofs.Common.{◌≡◌, ℕ, ◌+◌, ◌<◌, ◌≤◌, ◌==◌, nat_lt, Bool, true, false, not, List, [], ◌∷◌, ◌++◌, length}
 use Rattle.std.proofs.Common.{length-append, Result, Ok, Err, refl, sym, ap, ◌∙◌, arith, subst}
 use Rattle.std.specs.List.{join_with_byte}
@@ -58,7 +58,7 @@ line_refused number heard why line text rest cut is =
     ap (content_by_parts number heard) cut
     ∙ stops number heard why line (parts_of rest) (split_some_part (λ byte. byte == 10) rest) is
 
--- Not all was reported.
+-- Not all of the text was read.
 abbrev pub IsPartial : Heard → Type 0
 IsPartial (Whole content) = ⊥
 IsPartial other = Unit {0}
@@ -115,7 +115,7 @@ replay-stepped content machine after event entries stands taken stepped grown =
     stepped (content_history content) (sym stands) ∙ replay-more content event taken
     ∙ ap (λ (es : List Event). replay_of (content_of content.base content.folded es)) (sym grown)
 
--- An event's line: what was reported before is seen as `seen`.
+-- An event's line. What was read before it is `seen`.
 
 pub room-test : (m n : ℕ) → m < n → not (nat_lt m n) ≡ false
 room-test m n h = grind (arith)
@@ -170,14 +170,14 @@ adds_entry content seen event r same is room taken = record {
       ∙ ap (λ (t : Content). read_so (Entries (with_entry t event))) same;
 }
 
--- No fault of an event's line is want of memory.
+-- No fault of an event's line is a lack of memory.
 pub kind_of-memory : (fault : EventFault) → kind_of fault ≡ kind.OutOfMemory → ⊥
 kind_of-memory why.UnknownEvent h = cc h
 kind_of-memory why.Line h = cc h
 kind_of-memory why.Number h = cc h
 kind_of-memory why.Label h = cc h
 
--- A fault is at the line of this number, or later.
+-- A fault is at the line with this number, or later.
 
 at_refusal : (number : ℕ) (why : TraceFaultKind) (first : TraceFault) → refusal number why ≡ Err first
     → number ≤ first.line
@@ -197,7 +197,7 @@ later_at_end number (Entries content) rest first h = at_line number first h
 later_at_end number (Whole content) [] first h = cc h
 later_at_end number (Whole content) (byte ∷ rest) first h = at_line number first h
 
--- what is answered after a line
+-- the result after a line
 abbrev pub followed : ℕ → List (List ℕ) → Result Heard TraceFaultKind → Result Content TraceFault
 followed number parts (Ok more) = content_by_parts (number + 1) more parts
 followed number parts (Err why) = refusal number why
@@ -241,7 +241,7 @@ over_none number content (byte ∷ rest) none = absurd (omega (arith, none))
 
 -- Entries that are read
 
--- what is reported after a line
+-- the result of several lines after a line
 abbrev pub along_after : List (List ℕ) → Result Heard TraceFaultKind → Result Heard TraceFaultKind
 along_after lines (Ok more) = heard_along more lines
 along_after lines (Err why) = Err why
@@ -291,7 +291,7 @@ fault_further : (number : ℕ) (lines : List (List ℕ)) (more : Heard) (first :
 fault_further number lines more first (Ok next) later is = later next refl is
 fault_further number lines more first (Err why) later is = cc is
 
--- A fault is reported after the lines that are read.
+-- A fault comes after the lines that are read.
 fault_after : (number : ℕ) (heard more : Heard) (lines rest : List (List ℕ)) (first : TraceFault) → (rest ≡ [] → ⊥)
     → heard_along heard lines ≡ Ok more → content_by_parts number heard (lines ++ rest) ≡ Err first
     → number + length lines ≤ first.line
@@ -322,7 +322,7 @@ from_start text rest number same first =
     ap (λ (t : List ℕ). content_by_parts 1 Nothing (parts_of t)) (sym same)
     ∙ ap (λ (n : ℕ). content_by_parts n Nothing (parts_of rest)) (sym first)
 
--- after the two lines before the entries, which reported the base
+-- after the two lines before the entries, which give the base
 pub from_base : (text start rest : List ℕ) (number next : ℕ) (base made : Content) → start ≡ text → number ≡ 1
     → content_by_parts number Nothing (parts_of start) ≡ content_by_parts next (Entries base) (parts_of rest)
     → made ≡ base

@@ -1,4 +1,4 @@
--- The test whether events are taken, and the fact.
+-- The test for events that are taken agrees with the fact.
 use Rattle.std.proofs.Common.{◌≡◌, ◌&&◌, Bool, true, false, List, [], ◌∷◌, ◌++◌, refl, arith}
 use Rattle.std.proofs.lemmas.Bool.Decides.{nat_tests}
 use Rattle.sup_core.specs.declared.event.Event.{Event}
@@ -31,7 +31,7 @@ all_true false b c h = absurd (grind (arith))
 each_true : (a b c : Bool) → a ≡ true → b ≡ true → c ≡ true → (a && b && c) ≡ true
 each_true a b c h i j = rw (h, i, j) refl
 
--- The test says whether each event is taken.
+-- The test shows that each event is taken.
 pub AreTaken-are_taken : (past : History) (events : List Event) → are_taken past events ≡ true → AreTaken past events
 AreTaken-are_taken past [] h = tt
 AreTaken-are_taken past (event ∷ events) h =

@@ -1,4 +1,4 @@
--- What is reported is read, so a text is read as what it says, and only that.
+-- What is written is read: a text is read as what it says, and as nothing else.
 use Rattle.std.proofs.Common.{◌≡◌, ℕ, ◌+◌, ◌<◌, ◌≤◌, ◌==◌, Bool, true, false, List, [], ◌∷◌, ◌++◌, map, flat_map}
 use Rattle.std.proofs.Common.{append_assoc, length, Option, Some, None, Result, Ok, Err, refl, sym, ap, ◌∙◌, arith}
 use Rattle.std.proofs.Common.{codes, decimal, subst}
@@ -181,7 +181,7 @@ refusal fault = Err fault
 abbrev pub answer : Content → Result Content TraceFault
 answer content = Ok content
 
--- All was reported, and nothing stands after the end line.
+-- All of the text was read, and nothing comes after the end line.
 pub reported_whole : (text rest : List ℕ) (number : ℕ) (content : Content)
     → content_from text ≡ content_by_parts number (Whole content) (parts_of rest)
     → true ≡ (length rest == 0) → content_from text ≡ Ok content
@@ -199,7 +199,7 @@ content_from-only content h =
     (some_parts (map event_text content.entries) _) (base_line content h)
     ∙ entries_read 3 (length content.entries) base content.entries h.ranges h.taken (omega arith) h.limit
 
--- What is reported is so, without what types say by themselves.
+-- The content that is read is valid, apart from what types guarantee.
 pub IsTraceText-content : (text : List ℕ) (content : Content) → content_from text ≡ Ok content → IsTraceText content
 IsTraceText-content text content is =
     let found = content_from-found text content is in
@@ -219,7 +219,7 @@ memory_spelt kind.Number h = absurd (h (λ e. cc e))
 memory_spelt kind.UnknownEvent h = absurd (h (λ e. cc e))
 memory_spelt kind.NotTaken h = absurd (h (λ e. cc e))
 
--- A text that says a trace is refused for want of memory alone.
+-- A text of a valid trace is refused only if memory runs out.
 pub only-ok : (text : List ℕ) (content : Content) (r : Result Content TraceFault) → IsContent content
     → text ≡ trace_text content
     → IfOk r (λ read. content_from text ≡ Ok read)

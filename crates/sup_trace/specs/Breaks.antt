@@ -1,4 +1,4 @@
--- The entry at which a replay is to break.
+-- The entry at which a replay breaks.
 use Rattle.std.specs.Prelude.{◌≡◌, ◌↔◌, ℕ, ◌+◌, ◌-◌, ◌<◌, Bool, IsTrue, slice_get, IsSomeAnd}
 use Rattle.std.specs.List.{Any}
 use Rattle.tai_status.specs.declared.phase.Phase.{Phase}
@@ -16,7 +16,7 @@ use Rattle.sup_trace.specs.declared.breaks.Break.TheVariants as break
 use Rattle.sup_trace.specs.Content.{Content}
 use Rattle.sup_trace.specs.Explained.{before}
 
--- An ask is this signal, to whatever process.
+-- An ask is this signal, to any process.
 abbrev pub IsSignal : Sig → Ask → Type 0
 IsSignal sig (Signal other pid) = other ≡ sig
 IsSignal sig ask = ⊥
@@ -32,17 +32,17 @@ Breaks (break.Byte byte) past happened = happened ≡ event.Byte byte
 Breaks (break.Phase phase) past happened = phase_of (next past happened) ≡ phase
 Breaks (break.Signal sig) past happened = AsksFor sig (reply_to past happened)
 
--- Whether it is, wherever this event has this answer and this phase behind it.
+-- Whether the break is met, at every place at which this event has this reply and this phase after it.
 abbrev pub AnswersBreak : (met : Bool) → Break → Event → Reply → Phase → Type 0
 AnswersBreak met at happened reply phase =
     (past : History) → reply ≡ reply_to past happened → phase ≡ phase_of (next past happened)
     → IsTrue met ↔ Breaks at past happened
 
--- The entry at a place, from 0, is such an event where it stands.
+-- The entry at a place, counted from 0, meets the break.
 abbrev pub BreaksAt : Content → Break → ℕ → Type 0
 BreaksAt content at place = IsSomeAnd (slice_get content.entries place) (Breaks at (before content place))
 
--- This number, counted from 1, is that of the first such entry.
+-- This number, counted from 1, is the number of the first such entry.
 pub record IsFirstBreak (content : Content) (at : Break) (number : ℕ) : Type 0 where
   pub above : 0 < number
   pub here : BreaksAt content at (number - 1)

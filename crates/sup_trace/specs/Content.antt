@@ -9,8 +9,8 @@ use Rattle.sup_core.specs.History.{History, Opened, state_of}
 use Rattle.sup_core.specs.Runs.{followed_by, AreTaken}
 use Rattle.sup_core.specs.Reading.{IsInRange}
 
--- The base is a machine as it stood, folded is how many events had led to it, as far as they were
--- counted, and the entries are the events taken since, oldest first.
+-- The base is the state of a machine. The count of folded events says how many events had led to it; it may stop before
+-- the true number. The entries are the events taken since then, oldest first.
 pub record Content : Type 0 where
   pub base : State
   pub folded : ℕ
@@ -24,8 +24,8 @@ content_history content = followed_by (Opened content.base) content.entries
 abbrev pub replay_of : Content → State
 replay_of content = state_of (content_history content)
 
--- What holds of all that a text can hold: there are at most 65,536 entries, each is taken where it
--- stands, the count stops at `2 ^ 63`, and numbers and labels are in range.
+-- The conditions on what a text can hold. There are at most 65,536 entries, each is taken in its turn, the count stops
+-- at `2 ^ 63`, and numbers and labels are in range.
 pub record IsContent (content : Content) : Type 0 where
   pub state : IsState content.base
   pub status : IsStatus content.base.status
@@ -35,11 +35,11 @@ pub record IsContent (content : Content) : Type 0 where
   pub taken : AreTaken (Opened content.base) content.entries
   pub ranges : AllByRecursion IsInRange content.entries
 
--- what a base, a count and a list of entries say
+-- a trace's text with this base, this count and these entries
 abbrev pub content_of : State → ℕ → List Event → Content
 content_of base folded entries = record { base = base; folded = folded; entries = entries }
 
--- What of `IsContent` the types of machines and events do not say by themselves.
+-- The part of `IsContent` that does not follow from the types of machines and events.
 pub record IsTraceText (content : Content) : Type 0 where
   pub count : content.folded ≤ 2 ^ 63
   pub limit : length content.entries ≤ 65536

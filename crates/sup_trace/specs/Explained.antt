@@ -1,4 +1,4 @@
--- What the entries of a trace did: each after the machine before it.
+-- What the entries of a trace did: each is taken by the machine before it.
 use Rattle.std.specs.Prelude.{ℕ, ◌+◌, List, ◌++◌, map, take, codes, decimal}
 use Rattle.std.specs.List.{enumerate_from}
 use Rattle.sup_core.specs.declared.event.Event.{Event}
@@ -8,20 +8,20 @@ use Rattle.sup_core.specs.Runs.{followed_by}
 use Rattle.sup_core.specs.Text.{event_text, answer_text}
 use Rattle.sup_trace.specs.Content.{Content}
 
--- the history before the entry at a place, from 0: the base and the entries that come first
+-- the history before the entry at a place, counted from 0: the base and the entries before it
 abbrev pub before : Content → ℕ → History
 before content place = followed_by (Opened content.base) (take place content.entries)
 
--- what is answered to an event, and the phase after it
+-- the reply to an event, and the phase after it
 abbrev pub answer_at : History → Event → List ℕ
 answer_at past event = answer_text (reply_to past event) (phase_of (next past event))
 
--- the line of an entry: its number, the event, and the answer
+-- the line of an entry: its number, the event, and the reply
 abbrev pub numbered_line : ℕ → History → Event → List ℕ
 numbered_line number past event =
     decimal number ++ codes " " ++ event_text event ++ codes ": " ++ answer_at past event
 
--- the line of the entry at a place, whose number is from 1
+-- the line of the entry at a place; entries are numbered from 1
 abbrev pub explained_line : Content → ℕ → Event → List ℕ
 explained_line content place event = numbered_line (place + 1) (before content place) event
 

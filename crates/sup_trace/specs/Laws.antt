@@ -1,4 +1,4 @@
--- How traces go on, whatever events come.
+-- How events change traces, whatever events come.
 use Rattle.std.specs.Prelude.{◌≡◌, ℕ, ◌<◌, ◌≤◌, List}
 use Rattle.std.specs.List.{AllByRecursion}
 use Rattle.sup_core.specs.declared.event.Event.{Event}
@@ -8,14 +8,14 @@ use Rattle.sup_core.specs.Rules.{IsEvent}
 use Rattle.sup_core.specs.Runs.{followed_by, taken_of}
 use Rattle.sup_trace.specs.Trace.{Kept, IsTrace, history_of, new_trace, noted, noted_along, replay, trace_after}
 
--- A new trace keeps of any events what is kept after those of them that are taken.
+-- After any events, a new trace keeps what it would keep after those of them that are taken.
 abbrev pub NewTraceKeepsTheTaken : Type 0
 NewTraceKeepsTheTaken =
     (machine : State) (capacity : ℕ) (events : List Event) → 0 < capacity → capacity ≤ 65536
     → AllByRecursion IsEvent events
     → noted_along (new_trace machine capacity) events ≡ trace_after machine capacity (taken_of (Opened machine) events)
 
--- Events one at a time come to the same as those of them that are taken, at once.
+-- Events one at a time lead to the same trace as those of them that are taken, all at once.
 abbrev pub EachComesAsAll : Type 0
 EachComesAsAll =
     (kept : Kept) (events : List Event) → IsTrace kept → AllByRecursion IsEvent events

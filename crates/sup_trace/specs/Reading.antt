@@ -1,4 +1,4 @@
--- Reading the text of a trace: what it says, or else its first faulty line and why that is refused.
+-- Reading the text of a trace: what it says, or its first faulty line and why that line is refused.
 use Rattle.std.specs.Prelude.{◌≡◌, ◌≢◌, ℕ, ◌+◌, ◌^◌, ◌<◌, ◌==◌, ◌&&◌, nat_lt, nat_le, bytes_eq, Bool, true, false}
 use Rattle.std.specs.Prelude.{not, if◌then◌else◌, List, [], ◌∷◌, ◌++◌, length, codes, decimal, Option, Some, None}
 use Rattle.std.specs.Prelude.{option_map, Result, Ok, Err, MatchResult}
@@ -26,14 +26,14 @@ use Rattle.sup_trace.specs.Text.{header, front_lines, lines_text}
 
 -- What the fields of the base's line say
 
--- the count of folded events that this is the text of
+-- the count of folded events with this text
 unfoldable pub folded_of_text : List ℕ → Option ℕ
 folded_of_text text =
     if nat_le (digits_value 10 text) (2 ^ 63) && bytes_eq (decimal (digits_value 10 text)) text
     then Some (digits_value 10 text)
     else None
 
--- the phase of this name
+-- the phase with this name
 abbrev pub phase_of_text : List ℕ → Option Phase
 phase_of_text text =
     if bytes_eq text (codes "starting") then Some phase.Starting
@@ -44,21 +44,21 @@ phase_of_text text =
     else if bytes_eq text (codes "gone") then Some phase.Gone
     else None
 
--- the status whose record these bytes are
+-- the status with this record
 abbrev pub status_of_bytes : Result (List ℕ) FromHexError → Option Status
 status_of_bytes (Ok bytes) = result_ok (status_from bytes)
 status_of_bytes (Err e) = None
 
--- a status, where this is the text of its record
+-- a status, if this is the text of its record
 abbrev pub if_spelled : List ℕ → Option Status → Option Status
 if_spelled text (Some status) = if bytes_eq (encode_lower (status_record status)) text then Some status else None
 if_spelled text None = None
 
--- the status whose record has these 36 lower-case digits
+-- the status with these 36 lower-case digits as its record
 unfoldable pub status_of_text : List ℕ → Option Status
 status_of_text text = if_spelled text (status_of_bytes (decode_sized text 18))
 
--- whether the machine is to end
+-- whether supervise exits after the process
 abbrev pub exiting_of_text : List ℕ → Option Bool
 exiting_of_text text =
     if bytes_eq text (codes "exit") then Some true
@@ -80,20 +80,20 @@ pub data Heard : Type 0 where
   Entries : Content → Heard
   Whole : Content → Heard
 
--- the base of so many folded events, and no entries yet
+-- the base with this many folded events, and no entries yet
 abbrev pub at_base : ℕ → State → Heard
 at_base folded base = Entries (content_of base folded [])
 
--- with one more entry
+-- the same with one more entry
 abbrev pub with_entry : Content → Event → Content
 with_entry content event = content_of content.base content.folded (content.entries ++ event ∷ [])
 
--- a phase, a status, and whether the machine is to end
+-- a phase, a status, and whether supervise exits after the process
 abbrev pub standing : Option Phase → Option Status → Option Bool → Option (Phase × Status × Bool)
 standing (Some phase) (Some status) (Some exiting) = Some (phase, status, exiting)
 standing phase status exiting = None
 
--- the state of these and of when settling or resting ends
+-- the state with these parts, and the time when settling or resting ends
 abbrev pub state_of_parts : Phase × Status × Bool → Option Tai64n → State
 state_of_parts (phase, status, exiting) until =
     record { phase = phase; status = status; exiting = exiting; until = until }
@@ -102,8 +102,8 @@ abbrev pub base_at : ℕ → State → Result Heard TraceFaultKind
 base_at folded state =
     if is_state state then Ok (at_base folded state) else Err kind.Line
 
--- The base of what its fields say, or the first fault: no number; no phase, record or word of staying; no label;
--- no state in which a machine stands.
+-- The base from what its fields say, or the first fault. The faults are, in order: no number; no phase, record, `exit`
+-- or `stay`; no label; no possible state of a machine.
 abbrev pub base_from : Option ℕ → Option (Phase × Status × Bool) → Option (Option Tai64n) → Result Heard TraceFaultKind
 base_from None standing until = Err kind.Number
 base_from (Some folded) None until = Err kind.Line
@@ -126,7 +126,7 @@ kind_of why.Line = kind.Line
 kind_of why.Number = kind.Number
 kind_of why.Label = kind.Label
 
--- an event's line: its own faults come first, then one entry more than 65,536, then one that is not taken
+-- an event's line: its own faults come first, then more than 65,536 entries, then an event that is not taken
 abbrev pub entry_result : Content → Result Event EventFault → Result Heard TraceFaultKind
 entry_result content (Err fault) = Err (kind_of fault)
 entry_result content (Ok event) =
@@ -134,26 +134,26 @@ entry_result content (Ok event) =
     else if takes (content_history content) event then Ok (Entries (with_entry content event))
     else Err kind.NotTaken
 
--- the end line: the number of the entries
+-- the end line, which has the number of entries
 abbrev pub end_result : Content → List (List ℕ) → Result Heard TraceFaultKind
 end_result content (count ∷ []) =
     if bytes_eq count (decimal (length content.entries)) then Ok (Whole content) else Err kind.Number
 end_result content other = Err kind.Line
 
--- a line after the base's, by its fields: a first word `end` makes it the end line
+-- a line after the base's, by its fields: it is the end line if its first word is `end`
 abbrev pub later_result : Content → List (List ℕ) → Result Heard TraceFaultKind
 later_result content [] = Err kind.UnknownEvent
 later_result content (word ∷ rest) =
     if bytes_eq word (codes "end") then end_result content rest else entry_result content (event_from (word ∷ rest))
 
--- what a line says after those so far
+-- what a line says after the lines so far
 abbrev pub line_result : Heard → List ℕ → Result Heard TraceFaultKind
 line_result Nothing line = if bytes_eq line header then Ok Header else Err kind.Line
 line_result Header line = base_result (fields line)
 line_result (Entries content) line = later_result content (fields line)
 line_result (Whole content) line = Err kind.Line
 
--- all that was said, or what was said so far
+-- all that the text says, or what it has said so far
 abbrev pub heard_of : Bool → Content → Heard
 heard_of true content = Whole content
 heard_of false content = Entries content
@@ -162,12 +162,12 @@ heard_of false content = Entries content
 abbrev pub refusal : ℕ → TraceFaultKind → Result Content TraceFault
 refusal number why = Err (record { line = number; kind = why })
 
--- what the bytes after the last newline say: there are none, and all was said
+-- what the bytes after the last newline mean: there must be none, and all must have been said
 abbrev pub at_end : ℕ → Heard → List ℕ → Result Content TraceFault
 at_end number (Whole content) [] = Ok content
 at_end number heard rest = refusal number kind.Line
 
--- Reading goes line by line, each up to its newline, and the first that is refused is reported with its number.
+-- A text is read line by line, each line up to its newline. The first line that is refused is reported with its number.
 abbrev pub content_by_parts : ℕ → Heard → List (List ℕ) → Result Content TraceFault
 content_by_parts number heard [] = at_end number heard []
 content_by_parts number heard (rest ∷ []) = at_end number heard rest
@@ -184,11 +184,11 @@ parts_of text = slice_split (λ byte. byte == 10) text
 abbrev pub content_from : List ℕ → Result Content TraceFault
 content_from text = content_by_parts 1 Nothing (parts_of text)
 
--- Where reading can want memory
+-- When reading can run out of memory
 
--- A text has an entry on this line: it begins with a header, a base's line and the lines of entries, each taken where
--- it stands, and the last of these is the line of that number. So the lines before it are read, it is read, and its
--- event is taken there.
+-- A text has an entry on this line. The text begins with a header, a base's line and the lines of entries. Each entry
+-- is taken in its turn, and the last of them is on this line. Thus the lines up to this one can be read, and its event
+-- is taken.
 pub record HasEntryAt (text : List ℕ) (line : ℕ) : Type 0 where
   pub content : Content
   pub so : IsContent content
@@ -201,18 +201,18 @@ pub record HasEntryAt (text : List ℕ) (line : ℕ) : Type 0 where
 abbrev pub IsBeforeFaults : (text : List ℕ) (line : ℕ) → Type 0
 IsBeforeFaults text line = (first : TraceFault) → content_from text ≡ Err first → line < first.line
 
--- This was read; or there was no memory for it.
+-- This was read, or memory ran out.
 abbrev pub ReadsOrStarves : Result Content TraceFault → Content → Type 0
 ReadsOrStarves result content = MatchResult result (λ read. read ≡ content) (λ fault. fault.kind ≡ kind.OutOfMemory)
 
--- Words of the steps of reading, for private functions alone.
+-- Words for the steps of reading, used by private functions only.
 
 -- One more entry is read.
 pub record AddsEntry (content : Content) (r : Result Heard TraceFaultKind) : Type 0 where
   pub event : Event
   pub is : r ≡ Ok (Entries (with_entry content event))
 
--- A line is cut off a text and read.
+-- A line is cut off a text, and read.
 pub record ReadsLine (number later : ℕ) (text rest : List ℕ) (heard more : Heard) : Type 0 where
   pub line : List ℕ
   pub cut : parts_of text ≡ line ∷ parts_of rest
@@ -227,7 +227,7 @@ heard_along heard (line ∷ lines) = elim (line_result heard line) [
   | Err why ↦ Err why
 ]
 
--- The line numbered `at` is read as an entry, where the first of these parts has the number `number`.
+-- Line number `at` is read as an entry. The first of these parts has the number `number`.
 pub record ReadsEntry (at number : ℕ) (heard : Heard) (parts : List (List ℕ)) : Type 0 where
   pub lines : List (List ℕ)
   pub rest : List (List ℕ)
@@ -238,20 +238,20 @@ pub record ReadsEntry (at number : ℕ) (heard : Heard) (parts : List (List ℕ)
   pub is : heard_along heard lines ≡ Ok (Entries content)
   pub place : at + 1 ≡ number + length lines
 
--- What is read from here is read from there: by the number of a line, what the lines before it said, and
--- the text that begins with it.
+-- Reading from this place gives what reading from that place gives. A place is the number of a line, what the lines
+-- before it said, and the text that begins with it.
 abbrev pub SpellsAlike : (number : ℕ) (heard : Heard) (text : List ℕ) (later : ℕ) (more : Heard) (rest : List ℕ)
     → Type 0
 SpellsAlike number heard text later more rest =
     content_by_parts number heard (parts_of text) ≡ content_by_parts later more (parts_of rest)
 
--- An entry that is read from there is read from here.
+-- An entry that is read from that place is read from this one.
 abbrev pub ReadsItsEntries :
     (number : ℕ) (heard : Heard) (text : List ℕ) (later : ℕ) (more : Heard) (rest : List ℕ) → Type 0
 ReadsItsEntries number heard text later more rest =
     (at : ℕ) → ReadsEntry at later more (parts_of rest) → ReadsEntry at number heard (parts_of text)
 
--- What is reported of faults
+-- Reports of faults
 
 -- why a line is refused
 abbrev pub kind_name : TraceFaultKind → List ℕ

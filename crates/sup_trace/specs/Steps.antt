@@ -1,4 +1,4 @@
--- The steps of reading a text line by line. No public contract speaks of them.
+-- The steps of reading a text line by line. No public contract names these definitions.
 use Rattle.std.specs.Prelude.{◌≡◌, ◌≢◌, Err}
 use Rattle.sup_trace.specs.declared.fault.TraceFault.{TraceFault}
 use Rattle.sup_trace.specs.declared.fault.TraceFaultKind.TheVariants as kind
@@ -17,20 +17,20 @@ use Rattle.sup_trace.specs.Reading.{
 abbrev pub ReadsNext : (old new : Lines) (heard more : Heard) → Type 0
 ReadsNext old new heard more = ReadsLine old.number new.number old.rest.now new.rest.now heard more
 
--- Reading from here ends in this fault, unless memory is wanted.
+-- Reading from this place ends in this fault, unless memory runs out.
 abbrev pub EndsInFault : Lines → Heard → TraceFault → Type 0
 EndsInFault lines heard fault =
     fault.kind ≢ kind.OutOfMemory → content_by_parts lines.number heard (parts_of lines.rest.now) ≡ Err fault
 
--- Where memory is wanted, the line is an entry's.
+-- If memory runs out, the line is that of an entry.
 abbrev pub WantsMemory : Lines → Heard → TraceFault → Type 0
 WantsMemory lines heard fault =
     fault.kind ≡ kind.OutOfMemory → ReadsEntry fault.line lines.number heard (parts_of lines.rest.now)
 
--- What is read from here is read from there.
+-- Reading from this place gives what reading from that place gives.
 abbrev pub ReadsAlike : (here : Lines) (heard : Heard) (there : Lines) (more : Heard) → Type 0
 ReadsAlike here heard there more = SpellsAlike here.number heard here.rest.now there.number more there.rest.now
 
--- An entry that is read from there is read from here.
+-- An entry that is read from that place is read from this one.
 abbrev pub KeepsEntries : (here : Lines) (heard : Heard) (there : Lines) (more : Heard) → Type 0
 KeepsEntries here heard there more = ReadsItsEntries here.number heard here.rest.now there.number more there.rest.now

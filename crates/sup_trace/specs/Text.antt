@@ -1,5 +1,5 @@
--- The text of a trace: a header, a line for the base, one line for each entry, oldest first, and an
--- end line with the number of entries. Every line ends in a newline.
+-- The text of a trace: a header, a line for the base, one line for each entry, oldest first, and an end line with the
+-- number of entries. Every line ends in a newline.
 use Rattle.std.specs.Prelude.{ℕ, Bool, if◌then◌else◌, List, [], ◌∷◌, ◌++◌, map, length, flat_map, codes, decimal}
 use Rattle.std.specs.Prelude.{Option, Some, None}
 use Rattle.std.specs.List.{join_with_byte}
@@ -15,11 +15,11 @@ use Rattle.sup_trace.specs.Content.{Content}
 unfoldable pub header : List ℕ
 header = codes "dtools-trace 1"
 
--- whether the machine is to end
+-- whether supervise exits after the process
 abbrev pub stay_text : Bool → List ℕ
 stay_text exiting = if exiting then codes "exit" else codes "stay"
 
--- until when it settles or rests
+-- until when the machine settles or rests
 abbrev pub until_text : Option Tai64n → List ℕ
 until_text None = codes "-"
 until_text (Some label) = label_text label
@@ -29,13 +29,13 @@ abbrev pub record_digits : Status → List ℕ
 record_digits status = encode_lower (status_record status)
 
 -- the fields of the base's line: the count of folded events; the phase; the digits of the status record; whether
--- the machine is to end; and the end of its settling or resting
+-- supervise exits after the process; and the end of settling or resting
 abbrev pub base_fields : ℕ → State → List (List ℕ)
 base_fields folded base =
     codes "base" ∷ decimal folded ∷ phase_name base.phase ∷ record_digits base.status
     ∷ stay_text base.exiting ∷ until_text base.until ∷ []
 
--- the base's line: its fields, parted by one space
+-- the base's line: its fields, separated by one space
 abbrev pub base_text : ℕ → State → List ℕ
 base_text folded base = join_with_byte 32 (base_fields folded base)
 

@@ -10,8 +10,8 @@ use Rattle.sup_core.specs.Rules.{takes}
 use Rattle.sup_core.specs.Runs.{followed_by, AreTaken}
 use Rattle.sup_trace.specs.Content.{Content, content_of, content_history, replay_of}
 
--- The machine before the entries, the events taken since, oldest first, how many of them are kept at
--- most, and how many older ones the base stands for, as far as they are counted.
+-- The machine before the entries; the events taken since then, oldest first; how many events are kept at most; and how
+-- many older events the base includes, as far as they are counted.
 pub record Kept : Type 0 where
   pub base : State
   pub entries : List Event
@@ -34,7 +34,7 @@ history_of kept = content_history (content_by kept)
 abbrev pub replay : Kept → State
 replay kept = replay_of (content_by kept)
 
--- What holds of every trace.
+-- The conditions on every trace.
 pub record IsTrace (kept : Kept) : Type 0 where
   pub room : 0 < kept.capacity
   pub limit : kept.capacity ≤ 65536
@@ -42,7 +42,7 @@ pub record IsTrace (kept : Kept) : Type 0 where
   pub taken : AreTaken (Opened kept.base) kept.entries
   pub count : kept.folded ≤ 2 ^ 63
 
--- The machine that a trace keeps beside is the one that its base and entries replay to.
+-- The machine that a trace keeps next to its base and entries is the one that they replay to.
 pub record IsKeptUp (kept : Kept) (machine : State) : Type 0 where
   pub trace : IsTrace kept
   pub replayed : machine ≡ replay kept
@@ -57,12 +57,12 @@ new_trace base capacity = record { base = base; entries = []; capacity = capacit
 abbrev pub folded_into : State → List Event → State
 folded_into base events = state_of (followed_by (Opened base) events)
 
--- how many are cut off when these events are taken: those for which there is no room
+-- how many entries are cut off when these events are taken: those that no longer fit
 abbrev pub cut : Kept → List Event → ℕ
 cut kept events = length (kept.entries ++ events) - kept.capacity
 
--- The trace after these events are taken: the last ones are its entries, as many as there is room for,
--- and the base is the machine after those before them, which are counted up to `2 ^ 63`.
+-- The trace after these events are taken. Its entries are the last events, as many as fit. Its base is the machine
+-- after the events before them, which are counted up to `2 ^ 63`.
 abbrev pub noted : Kept → List Event → Kept
 noted kept events =
     record {
@@ -72,7 +72,7 @@ noted kept events =
       folded = min (kept.folded + cut kept events) (2 ^ 63);
     }
 
--- the trace after an event, which leaves no mark where it is not taken
+-- the trace after an event; an event that is not taken leaves no mark
 abbrev pub noted_if_taken : Kept → Event → Kept
 noted_if_taken kept event = if takes (history_of kept) event then noted kept (event ∷ []) else kept
 
@@ -81,19 +81,19 @@ abbrev pub noted_along : Kept → List Event → Kept
 noted_along kept [] = kept
 noted_along kept (event ∷ events) = noted_along (noted_if_taken kept event) events
 
--- the trace of a machine after these events, each of which is taken
+-- the trace of a machine after these events, if each of them is taken
 abbrev pub trace_after : State → ℕ → List Event → Kept
 trace_after machine capacity events = noted (new_trace machine capacity) events
 
--- Tests. No contract of this crate speaks of these two: they and proofs/Taken are for crates above, whose types hold a
--- list of events that were taken and need a fact that computes.
+-- Tests. No contract of this crate uses these two. They and proofs/Taken are for the crates above, whose types hold a
+-- list of events that were taken, and which need a fact that computes.
 
 -- whether a process that was started has a number of at least 1
 abbrev pub is_event : Event → Bool
 is_event (Started pid label) = nat_lt 0 pid
 is_event event = true
 
--- whether each of these events is taken where it stands
+-- whether each of these events is taken in its turn
 abbrev pub are_taken : History → List Event → Bool
 are_taken past [] = true
 are_taken past (event ∷ events) = is_event event && takes past event && are_taken (Then past event) events

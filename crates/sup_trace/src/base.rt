@@ -30,7 +30,7 @@ struct BaseFields<'a> {
     until: &'a [u8],
 }
 
-/// The count of folded events whose text this is.
+/// Reads the count of folded events.
 fn read_folded(text: &[u8]) -> Option<u64>
     ensures { result ≡ folded_of_text text.now }
 {
@@ -42,7 +42,7 @@ fn read_folded(text: &[u8]) -> Option<u64>
     }
 }
 
-/// The status of bytes that these digits spell, in whatever case.
+/// Reads the status that these digits spell, in upper or lower case.
 fn status_meant(text: &[u8]) -> Option<View>
     ensures { result ≡ status_of_bytes (decode_sized text.now 18) }
 {
@@ -52,7 +52,7 @@ fn status_meant(text: &[u8]) -> Option<View>
     }
 }
 
-/// The status whose record has these digits.
+/// Reads the status that has these digits as its record.
 #[tactic(auto, unfolding(crate::specs::Reading::status_of_text))]
 fn read_status(text: &[u8]) -> Option<View>
     ensures { result ≡ status_of_text text.now }
@@ -65,7 +65,7 @@ fn read_status(text: &[u8]) -> Option<View>
     }
 }
 
-/// Whether the machine is to end.
+/// Reads whether supervise exits after the process.
 fn read_exiting(text: &[u8]) -> Option<bool>
     ensures { result ≡ exiting_of_text text.now }
 {
@@ -76,7 +76,7 @@ fn read_exiting(text: &[u8]) -> Option<bool>
     }
 }
 
-/// Until when the machine settles or rests.
+/// Reads until when the machine settles or rests.
 fn read_until(text: &[u8]) -> Option<Option<Label>>
     ensures { result ≡ until_of_text text.now }
 {
@@ -86,7 +86,7 @@ fn read_until(text: &[u8]) -> Option<Option<Label>>
     }
 }
 
-/// The fields of a base's line.
+/// Splits a base's line into its fields.
 #[tactic(auto, using(crate::proofs::Parts::base_result_many))]
 fn base_fields(line: &[u8]) -> Option<BaseFields<'_>>
     ensures five { IfSome result (λ f. fields line.now
@@ -123,14 +123,14 @@ fn base_fields(line: &[u8]) -> Option<BaseFields<'_>>
     })
 }
 
-/// The phase of this name.
+/// Reads the phase with this name.
 fn phase_of(name: &[u8]) -> Option<Phase>
     ensures { result ≡ phase_of_text name.now }
 {
     read_phase(name)
 }
 
-/// The phase, the status, and whether the machine is to end.
+/// Reads the phase, the status, and whether supervise exits after the process.
 fn read_standing(fields: &BaseFields<'_>) -> Option<(Phase, View, bool)>
     ensures { result ≡ standing (phase_of_text fields.now.phase.now) (status_of_text fields.now.status.now)
         (exiting_of_text fields.now.stay.now) }
@@ -141,7 +141,7 @@ fn read_standing(fields: &BaseFields<'_>) -> Option<(Phase, View, bool)>
     Some((phase, view, exiting))
 }
 
-/// The machine of these parts.
+/// Returns the machine with these parts, if there is one.
 fn machine_of(standing: (Phase, View, bool), until: Option<Label>) -> Option<Machine>
     ensures base { IfSome result (λ base. base ≡ state_of_parts standing until) }
     ensures state { MatchOption result (is_state (state_of_parts standing until) ≡ false)
@@ -151,7 +151,7 @@ fn machine_of(standing: (Phase, View, bool), until: Option<Label>) -> Option<Mac
     Machine::of_parts(phase, view, exiting, until)
 }
 
-/// The base and the count of folded events of a line.
+/// Reads a base's line: the base and the count of folded events.
 pub(crate) fn read_base(line: &[u8]) -> Result<(u64, Machine), TraceFaultKind>
     ensures base { IfOk result (λ (folded, base). base_result (fields line.now) ≡ Ok (at_base folded base)) }
     ensures fault { IfErr result (λ kind. base_result (fields line.now) ≡ Err kind) }

@@ -5,7 +5,7 @@ use crate::content::TraceText;
 use std::alloc::Allocator;
 use sup_core::{Ask, Event, Phase, Reply, Sig};
 
-/// What to break at.
+/// Where to break.
 #[derive(Clone, Copy, Debug, PartialEq, Eq)]
 pub enum Break {
     /// An entry that is this control byte.
@@ -19,7 +19,7 @@ pub enum Break {
 impl Break {
     ghost use Rattle.sup_trace.specs.Breaks.{AnswersBreak};
 
-    /// Whether an event, its answer and the phase after it are what is looked for.
+    /// Returns whether an event, its reply and the phase after it meet the break.
     pub(crate) fn is_met(&self, event: &Event, reply: &Reply, phase: Phase) -> bool
         ensures { AnswersBreak result self.now event.now reply.now phase }
     {
@@ -31,8 +31,8 @@ impl Break {
     }
 }
 
-/// The number, from 1, of the first entry that is what is looked for: that byte, or one after which the phase is that
-/// phase, or one at which that signal is asked for. The base by itself is not looked at.
+/// Returns the number, from 1, of the first entry that meets the break: the entry is that byte, or leads to that phase,
+/// or asks for that signal. The base itself is not considered.
 pub fn first_break<A: Allocator>(content: &TraceText<A>, at: Break) -> Option<u64>
     ensures { MatchOption result (HasNoBreak content.now at) (IsFirstBreak content.now at) }
 {
@@ -46,7 +46,7 @@ pub fn first_break<A: Allocator>(content: &TraceText<A>, at: Break) -> Option<u6
     None
 }
 
-/// Whether a reply asks for a signal.
+/// Returns whether a reply asks for a signal.
 fn asks_for(reply: &Reply, sig: Sig) -> bool
     ensures { IsTrue result ↔ AsksFor sig reply.now }
 {
@@ -56,7 +56,7 @@ fn asks_for(reply: &Reply, sig: Sig) -> bool
     }
 }
 
-/// Whether an ask is this signal.
+/// Returns whether an ask is this signal.
 fn is_signal(ask: &Ask, sig: Sig) -> bool
     ensures { IsTrue result ↔ IsSignal sig ask.now }
 {

@@ -8,7 +8,7 @@ use std::marker::Model;
 use sup_core::{Event, Machine};
 
 /// What the text of a trace says: the machine before the entries, how many events had led to it, and the events taken
-/// since. Contracts see it as `Content`.
+/// since then. Contracts see it as `Content`.
 #[derive(Drop)]
 pub struct TraceText<A: Allocator = Global> {
     base: Machine,
@@ -29,7 +29,7 @@ impl<A: Allocator> Model for TraceText<A> {
 impl<A: Allocator> TraceText<A> {
     ghost use Rattle.sup_trace.specs.Content.{IsContent, IsTraceText, content_of};
 
-    /// The text that says of this base, of as many events before it, and of these entries.
+    /// Returns the content with this base, this count of events before it, and these entries.
     pub(crate) fn from_parts(base: Machine, folded: u64, entries: Vec<Event, A>) -> TraceText<A>
         requires { IsTraceText (content_of base folded entries.items) }
         ensures { result ≡ content_of base folded entries.items }
@@ -41,14 +41,14 @@ impl<A: Allocator> TraceText<A> {
         }
     }
 
-    /// The machine before the entries.
+    /// Returns the machine before the entries.
     pub fn base(&self) -> Machine
         ensures { result ≡ self.now.base }
     {
         self.base
     }
 
-    /// How many events were taken before the entries. The count stops at `2 ^ 63`.
+    /// Returns how many events were taken before the entries. The count stops at `2 ^ 63`.
     pub fn folded(&self) -> u64
         ensures folded { result ≡ self.now.folded }
         ensures limit { result ≤ 2 ^ 63 }
@@ -56,25 +56,25 @@ impl<A: Allocator> TraceText<A> {
         self.folded
     }
 
-    /// The events taken since, oldest first: at most 65,536.
+    /// Returns the events taken since the base, oldest first: at most 65,536.
     pub fn entries(&self) -> &[Event]
         ensures entries { result.now ≡ self.now.entries }
         ensures bounds { IsTraceText self.now }
     {
         self.entries.as_slice()
     }
-    /// The text: a header, the base's line, a line for each entry, and the number of entries. `AllocError` comes only
-    /// where the allocator refuses the memory for it, which is asked for at once.
+    /// Writes the text: a header, the base's line, a line for each entry, and the number of entries. `AllocError` is
+    /// returned only if the allocator refuses memory for the text, which is taken at once.
     pub fn write_text<B: Allocator>(&self, alloc: B) -> Result<Vec<u8, B>, AllocError>
         ensures text { IfOk result (λ bytes. bytes.items ≡ trace_text self.now) }
-        // Such a text is read as what it says.
+        // Such a text can be read, and gives this content.
         ensures range { OnOk result (IsContent self.now) }
     {
         trace_text(alloc, &self.base, self.folded, &[], &self.entries)
     }
 }
 
-/// The machine after the entries.
+/// Returns the machine after the entries.
 pub fn replay<A: Allocator>(content: &TraceText<A>) -> Machine
     ensures { result ≡ replay_of content.now }
 {

@@ -10,8 +10,8 @@ use std::alloc::{AllocError, Allocator};
 use sup_core::{Event, Machine, answer_text, event_text};
 use tai_status::Lines;
 
-/// A line for each entry: its number from 1, a space, the event, `: `, and the answer, as `1 byte d: took TERM:4711
-/// CONT:4711 record:.. -> up`. The lines have no newlines.
+/// Writes a line for each entry: its number from 1, a space, the event, `: `, and the reply. For example:
+/// `1 byte d: took TERM:4711 CONT:4711 record:.. -> up`. The lines have no newlines.
 pub fn explain<A: Allocator + Clone, B: Allocator>(
     alloc: A,
     content: &TraceText<B>,
@@ -27,7 +27,7 @@ pub fn explain<A: Allocator + Clone, B: Allocator>(
     Ok(Lines::from_vec(lines))
 }
 
-/// The line of an entry, whose event the machine takes.
+/// Writes the line of an entry. The machine takes its event.
 fn explained_line<A: Allocator + Clone>(
     alloc: &A,
     number: usize,

@@ -7,7 +7,7 @@ use std::fmt;
 /// Why a line of a trace's text is refused.
 #[derive(Clone, Copy, Debug, PartialEq, Eq)]
 pub enum TraceFaultKind {
-    /// The line is missing, or not of its form, or more than there may be.
+    /// The line is missing, has the wrong form, or is one more than there may be.
     Line,
     /// A label is wrong.
     Label,
@@ -15,13 +15,13 @@ pub enum TraceFaultKind {
     Number,
     /// The first word of an event's line is not known.
     UnknownEvent,
-    /// The machine does not take the event there.
+    /// The machine does not take the event at this place.
     NotTaken,
-    /// There was no memory for the entry.
+    /// Memory for the entry ran out.
     OutOfMemory,
 }
 
-/// The name of why a line is refused.
+/// Returns the name of a fault of a line.
 pub fn kind_name(kind: TraceFaultKind) -> &'static str
     ensures name { result.now ≡ kind_name kind }
     ensures short { length result.now ≤ 12 }
@@ -36,7 +36,7 @@ pub fn kind_name(kind: TraceFaultKind) -> &'static str
     }
 }
 
-/// The first line of a trace's text that is refused, numbered from 1, and why.
+/// The first line of a trace's text that is refused, numbered from 1, and the reason.
 #[derive(Clone, Copy, Debug, PartialEq, Eq)]
 pub struct TraceFault {
     pub line: u64,

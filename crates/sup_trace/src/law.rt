@@ -8,9 +8,10 @@ ghost use Rattle.sup_trace.specs.Reading.{content_from};
 ghost use Rattle.sup_trace.specs.Trace.{Kept, history_of, noted, noted_along, replay, content_by};
 ghost use Rattle.sup_trace.specs.Laws.{EachComesAsAll, NewTraceKeepsTheTaken, TracesReplayTheTaken};
 
-/// A law of traces. After any events, one at a time, the last of those that were taken are the entries, as many as
-/// there is room for; the base is the machine after those before them, which are counted up to `2 ^ 63`. So it makes no
-/// difference how the events came, and whatever was folded, base and entries replay to the machine after all events.
+/// States a law of traces. After any events, one at a time, the entries are the last of the taken events, as many as
+/// fit. The base is the machine after the events before them, which are counted up to `2 ^ 63`. It therefore makes no
+/// difference how the events came. However many events are folded, base and entries replay to the machine after all
+/// events.
 pub fn traces_after_events()
     ensures new { NewTraceKeepsTheTaken }
     ensures any { EachComesAsAll }
@@ -20,7 +21,7 @@ pub fn traces_after_events()
     ensures replays_taken { TracesReplayTheTaken }
 {}
 
-/// A law of texts. What a text says is read from it, and a text that is read is the one text of what it says. A
+/// States a law of texts. What a text says is read from it, and a text that is read is the only text of what it says. A
 /// trace's text says its base, its entries and its count of folded events, which replay to the machine after all
 /// events.
 pub fn texts_of_traces()

@@ -1,9 +1,9 @@
-//! The last events of a service, and the machine before them: what is left of a history when the rest is forgotten.
+//! The last events of a service, and the machine before them: what is kept of a history when the rest is forgotten.
 //!
-//! A [`Trace`] takes events as a machine does and keeps the last ones; the older ones are folded into its base. What it
-//! keeps is held by a text ([`TraceText`]), which [`read_text`] reads again, and from which [`replay`] gives the
+//! A [`Trace`] takes events as a machine does, and keeps the last ones. Older events are folded into its base. A text
+//! ([`TraceText`]) holds what it keeps, and [`read_text`] reads that text again. From it, [`replay`] computes the
 //! machine, [`explain`] says what each entry did, and [`first_break`] finds the first entry of a kind. `specs/Trace`
-//! says what is kept after any events, in one piece.
+//! defines, in one place, what is kept after any events.
 #![tactic(auto)]
 
 mod base;

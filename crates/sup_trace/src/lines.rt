@@ -12,7 +12,7 @@ pub(crate) struct Lines<'a> {
     pub number: u64,
 }
 
-/// Where the first newline is.
+/// Returns the place of the first newline.
 fn newline_at(text: &[u8]) -> Option<usize>
     ensures at { result ≡ position (λ byte. byte == 10) text.now }
     ensures below { IfSome result (λ at. at < length text.now) }
@@ -20,7 +20,7 @@ fn newline_at(text: &[u8]) -> Option<usize>
     text.iter().position(|byte| *byte == b'\n')
 }
 
-/// What stands before the first newline of a text, and what comes after it.
+/// Splits a text at its first newline: the bytes before it, and those after it.
 fn cut_line(text: &[u8]) -> Option<(&[u8], &[u8])>
     ensures parts { MatchOption result (parts_of text.now ≡ text.now ∷ [])
         (λ (line, rest). parts_of text.now ≡ line.now ∷ parts_of rest.now) }
@@ -33,7 +33,7 @@ fn cut_line(text: &[u8]) -> Option<(&[u8], &[u8])>
 }
 
 impl<'a> Lines<'a> {
-    /// The lines of a text.
+    /// Returns the lines of a text.
     pub fn new(text: &'a [u8]) -> Lines<'a>
         ensures rest { result.rest.now ≡ text.now }
         ensures number { result.number ≡ 1 }
@@ -44,7 +44,7 @@ impl<'a> Lines<'a> {
         }
     }
 
-    /// The next line, without its newline. Where it is missing or has no newline, that is its fault.
+    /// Returns the next line, without its newline. It is a fault of that line if it is missing or has no newline.
     pub fn next_line(&mut self) -> Result<&'a [u8], TraceFault>
         requires { self.old.number + length self.old.rest.now < 2 ^ 64 }
         ensures line { IfOk result (λ line. parts_of self.old.rest.now ≡ line.now ∷ parts_of self.new.rest.now) }

@@ -36,14 +36,14 @@ impl<A: Allocator> Model for Reading<A> {
 
     ghost Value = { Content };
 
-    // The machine follows from the others.
+    // The machine is computed from the other fields.
     ghost view = { λ reading. content_of reading.base reading.folded reading.entries.items };
 
     ghost invariant = { λ reading.
         reading.machine ≡ replay_of (content_of reading.base reading.folded reading.entries.items) };
 }
 
-/// What is reported of the fault of an event's line.
+/// Returns the fault that is reported for a fault of an event's line.
 fn kind_of(fault: EventFault) -> TraceFaultKind
     ensures { result ≡ kind_of fault }
 {
@@ -55,7 +55,7 @@ fn kind_of(fault: EventFault) -> TraceFaultKind
     }
 }
 
-/// Whether this is the first line.
+/// Returns whether this is the first line.
 #[tactic(auto, unfolding(crate::specs::Text::header))]
 fn is_header(line: &[u8]) -> bool
     ensures { result ≡ bytes_eq line.now header }
@@ -76,7 +76,7 @@ fn read_header(line: &[u8]) -> Result<(), TraceFaultKind>
 }
 
 impl<A: Allocator> Reading<A> {
-    /// The base, with no entries yet.
+    /// Begins with the base, and no entries yet.
     fn new(alloc: A, base: Machine, folded: u64) -> Reading<A>
         ensures { result ≡ content_of base folded [] }
     {
@@ -88,7 +88,7 @@ impl<A: Allocator> Reading<A> {
         }
     }
 
-    /// What was read, where it is what a text can hold.
+    /// Returns what was read, if a text can hold it.
     fn into_text(self) -> TraceText<A>
         requires { IsTraceText self }
         ensures { result ≡ self }
@@ -144,7 +144,7 @@ impl<A: Allocator> Reading<A> {
 }
 
 impl<A: Allocator> Reading<A> {
-    /// Takes a line after the base's. Whether it is the end line.
+    /// Takes a line after the base's. Returns whether it is the end line.
     fn take_line(&mut self, line: &[u8]) -> Result<bool, TraceFaultKind>
         ensures ok { IfOk result (λ ended. line_result (Entries self.old) line.now ≡ Ok (heard_of ended self.new)) }
         ensures fault { IfErr result (λ why. why ≢ kind.OutOfMemory
@@ -167,7 +167,7 @@ impl<A: Allocator> Reading<A> {
 }
 
 impl<A: Allocator> Reading<A> {
-    /// Takes the next line after the base's. Whether it is the end line.
+    /// Takes the next line after the base's. Returns whether it is the end line.
     fn take_next(&mut self, lines: &mut Lines<'_>) -> Result<bool, TraceFault>
         requires room { lines.old.number + length lines.old.rest.now < 2 ^ 64 }
         ensures ok { IfOk result (λ ended.
@@ -273,23 +273,25 @@ fn read_lines<A: Allocator>(alloc: A, text: &[u8]) -> Result<TraceText<A>, Trace
     Ok(reading.into_text())
 }
 
-/// What this text says. It has a line `dtools-trace 1`, one for the base, one event line for each entry, oldest first,
-/// and a line `end` with the number of the entries; every line ends in a newline.
+/// Reads a trace's text. It has a line `dtools-trace 1`, a line for the base, one event line for each entry, oldest
+/// first, and a line `end` with the number of entries. Every line ends in a newline.
 ///
-/// The base's line is `base FOLDED PHASE RECORD STAY UNTIL`: the count of events before the entries, at most `2 ^ 63`;
-/// the phase; the 36 lower-case digits of the status record; `exit` where the machine is to end, else `stay`; and the
-/// label until which it settles or rests, or `-`. An event line is one that `read_event` reads.
+/// The base's line is `base FOLDED PHASE RECORD STAY UNTIL`. FOLDED is the count of events before the entries, at most
+/// `2 ^ 63`. RECORD is the 36 lower-case digits of the status record. STAY is `exit` if supervise exits after the
+/// process, and `stay` if not. UNTIL is the label until which the machine settles or rests, or `-`. An event line is
+/// one that `read_event` reads.
 ///
-/// The first faulty line is reported. Want of memory for an entry is reported as a fault of its line.
+/// The first faulty line is reported. If memory for an entry runs out, that is reported as a fault of its line.
 pub fn read_text<A: Allocator>(alloc: A, text: &[u8]) -> Result<TraceText<A>, TraceFault>
     ensures found { IfOk result (λ content. IsContent content × (text.now ≡ trace_text content)) }
     ensures only { (content : Content) → IsContent content → text.now ≡ trace_text content
         → ReadsOrStarves result content }
-    // Which fault it is.
+    // The first fault is returned.
     ensures fault { IfErr result (λ fault. fault.kind ≢ kind.OutOfMemory → content_from text.now ≡ Err fault) }
-    // Memory is wanted at an entry alone: the lines before it are read, its line is, and its event is taken there.
+    // Memory can run out only at an entry: the lines before it are read, its line is read, and its event is taken
+    // there.
     ensures memory { IfErr result (λ fault. fault.kind ≡ kind.OutOfMemory → HasEntryAt text.now fault.line) }
-    // So a faulty line comes after it.
+    // Therefore any faulty line comes after it.
     ensures later { IfErr result (λ fault. fault.kind ≡ kind.OutOfMemory → IsBeforeFaults text.now fault.line) }
 {
     read_lines(alloc, text)

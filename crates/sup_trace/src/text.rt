@@ -16,13 +16,13 @@ use std::alloc::{AllocError, Allocator};
 use sup_core::{Event, Machine, Phase, event_text, phase_name};
 use tai_status::{Label, View, encode, text};
 
-/// The most bytes that the line of an entry can have, with its newline: a start's.
+/// The most bytes of an entry's line, with its newline: those of a start.
 const LONGEST_ENTRY: usize = 45;
 
-/// The most bytes that the lines before and after the entries can have.
+/// The most bytes of the lines before and after the entries.
 const LONGEST_ENDS: usize = 128;
 
-/// The text of a trace whose entries are those of two slices, one after the other. It takes its memory at once.
+/// Writes the text of a trace with the entries of two slices, one after the other. It takes its memory at once.
 pub(crate) fn trace_text<A: Allocator>(
     alloc: A,
     base: &Machine,
@@ -63,8 +63,8 @@ fn push_entries<A: Allocator>(out: &mut Vec<u8, A>, entries: &[Event]) -> Result
     Ok(())
 }
 
-/// Writes the base's line at the end of a text: how many events were folded, the phase, the digits of the status
-/// record, whether the machine is to end, and until when it settles or rests.
+/// Writes the base's line at the end of a text. It has the count of folded events, the phase, the digits of the status
+/// record, whether supervise exits after the process, and until when the machine settles or rests.
 fn push_base<A: Allocator>(
     out: &mut Vec<u8, A>,
     folded: u64,
@@ -83,8 +83,8 @@ fn push_base<A: Allocator>(
     out.extend_from_slice(b"\n")
 }
 
-/// Writes a space and a field at the end of a text, for the phase, the digits of the status record, and whether the
-/// machine is to end.
+/// Writes three fields at the end of a text, each after a space: the phase, the digits of the status record, and
+/// whether supervise exits after the process.
 fn push_standing<A: Allocator>(
     out: &mut Vec<u8, A>,
     phase: Phase,
@@ -99,7 +99,7 @@ fn push_standing<A: Allocator>(
     push_field(out, stay(exiting).as_bytes())
 }
 
-/// Whether a machine is to end, as a word.
+/// Returns the word for whether supervise exits after the process.
 fn stay(exiting: bool) -> &'static str
     ensures { result.now ≡ stay_text exiting }
 {
@@ -127,7 +127,7 @@ fn push_count<A: Allocator>(
     push_field(out, buffer.format(number).as_bytes())
 }
 
-/// The 36 lower-case hexadecimal digits of a view's status record.
+/// Returns the 36 lower-case hexadecimal digits of a view's status record.
 pub fn record_digits(view: &View) -> [u8; 36]
     ensures { result ≡ record_digits view.now }
 {

@@ -15,7 +15,7 @@ use sup_core::{Event, Machine, Reply};
 /// The most events that a trace may keep.
 pub const MAX_CAPACITY: usize = 65536;
 
-/// Where the count of folded events stops.
+/// The maximum of the count of folded events.
 pub(crate) const LAST_COUNT: u64 = 1 << 63;
 
 /// The last events that a machine took, and the machine before them. Contracts see it as `Kept`.
@@ -32,7 +32,7 @@ impl<A: Allocator> Model for Trace<A> {
 
     ghost Value = { Kept };
 
-    // The machine follows from the others.
+    // The machine is computed from the other fields.
     ghost view = { λ trace. kept_of trace.base trace.entries trace.folded };
 
     ghost invariant = { λ trace. IsKeptUp (kept_of trace.base trace.entries trace.folded) trace.machine };
@@ -41,7 +41,7 @@ impl<A: Allocator> Model for Trace<A> {
 impl<A: Allocator> Trace<A> {
     ghost use Rattle.sup_trace.specs.Trace.{Kept, history_of, noted, noted_if_taken, new_trace, replay, content_by};
 
-    /// A trace of a machine that has taken nothing yet. It keeps as many events as the capacity says, 1 to
+    /// Returns a trace of a machine that has taken nothing yet. It keeps as many events as the capacity says, 1 to
     /// `MAX_CAPACITY`, and takes all its memory now.
     pub fn new(alloc: A, capacity: usize, machine: Machine) -> Result<Trace<A>, AllocError>
         requires room { 0 < capacity }
@@ -57,28 +57,28 @@ impl<A: Allocator> Trace<A> {
         })
     }
 
-    /// The machine before the entries.
+    /// Returns the machine before the entries.
     pub fn base(&self) -> Machine
         ensures { result ≡ self.now.base }
     {
         self.base
     }
 
-    /// The entry at a place, the oldest at 0.
+    /// Returns the entry at a place. The oldest is at 0.
     pub fn entry(&self, index: usize) -> Option<Event>
         ensures { result ≡ slice_get self.now.entries index }
     {
         self.entries.get(index).copied()
     }
 
-    /// How many entries there are.
+    /// Returns how many entries there are.
     pub fn len(&self) -> usize
         ensures { result ≡ length self.now.entries }
     {
         self.entries.len()
     }
 
-    /// How many entries there may be.
+    /// Returns how many entries there may be.
     pub fn capacity(&self) -> usize
         ensures capacity { result ≡ self.now.capacity }
         ensures trace { IsTrace self.now }
@@ -86,14 +86,14 @@ impl<A: Allocator> Trace<A> {
         self.entries.capacity()
     }
 
-    /// How many events were folded into the base. The count stops at `2 ^ 63`.
+    /// Returns how many events were folded into the base. The count stops at `2 ^ 63`.
     pub fn folded(&self) -> u64
         ensures { result ≡ self.now.folded }
     {
         self.folded
     }
 
-    /// How many events were taken: the folded ones, as far as they are counted, and the entries.
+    /// Returns how many events were taken: the folded ones, as far as they are counted, and the entries.
     pub fn count(&self) -> u64
         ensures { result ≡ self.now.folded + length self.now.entries }
     {
@@ -101,15 +101,15 @@ impl<A: Allocator> Trace<A> {
         kept + self.folded
     }
 
-    /// The machine after the entries.
+    /// Returns the machine after the entries.
     pub fn state(&self) -> Machine
         ensures { result ≡ replay self.now }
     {
         self.machine
     }
 
-    /// Takes the event, which then is the newest entry, or holds it and does nothing. Where the entries are full, the
-    /// oldest is folded into the base. It takes no memory, and as long at any capacity.
+    /// Takes the event, which then is the newest entry, or holds it and does nothing. If the entries are full, the
+    /// oldest one is folded into the base. This needs no memory, and takes the same time at any capacity.
     pub fn note(&mut self, event: Event) -> Reply
         requires { IsEvent event }
         ensures reply { result ≡ reply_to (history_of self.old) event }
@@ -123,18 +123,18 @@ impl<A: Allocator> Trace<A> {
         reply
     }
 
-    /// The text of the trace, as `TraceText` writes it. `AllocError` comes only where the allocator refuses the memory
-    /// for it, which is asked for at once.
+    /// Writes the text of the trace, as `TraceText` writes it. `AllocError` is returned only if the allocator refuses
+    /// memory for the text, which is taken at once.
     pub fn write_text<B: Allocator>(&self, alloc: B) -> Result<Vec<u8, B>, AllocError>
         ensures text { IfOk result (λ bytes. bytes.items ≡ trace_text (content_by self.now)) }
-        // Such a text is read as what it says.
+        // Such a text can be read, and gives this content.
         ensures range { OnOk result (IsContent (content_by self.now)) }
     {
         let (first, second) = self.entries.as_slices();
         trace_text(alloc, &self.base, self.folded, first, second)
     }
 
-    /// What the text of the trace says. `AllocError` comes only where the allocator refuses the memory for the
+    /// Copies what the text of the trace says. `AllocError` is returned only if the allocator refuses memory for the
     /// entries.
     pub fn copy_text<B: Allocator>(&self, alloc: B) -> Result<TraceText<B>, AllocError>
         ensures { IfOk result (λ text. text ≡ content_by self.now) }
@@ -144,7 +144,7 @@ impl<A: Allocator> Trace<A> {
     }
 }
 
-/// Makes an event that is taken the newest entry. Where the entries are full, the oldest is folded into the base.
+/// Adds an event that was taken as the newest entry. If the entries are full, the oldest one is folded into the base.
 fn keep<A: Allocator>(
     base: &mut Machine,
     entries: &mut HeapCircularBuffer<Event, A>,

@@ -34,7 +34,7 @@ signals-fit past (StartFailed label) = All-nil IsAsk
 signals-fit past (Death label) = All-nil IsAsk
 signals-fit past (Clock label) = All-nil IsAsk
 
--- Each signal that is asked goes to a process.
+-- Each signal that is asked for goes to a process.
 pub asks-fit : (past : History) (event : Event) → All IsAsk (asks_of past event)
 asks-fit past event =
     let records = if writes event then record_of (Then past event) else [] in
@@ -44,7 +44,7 @@ asks-fit past event =
     (if-fit (writes event) (record_of (Then past event)) (λ _. one-fit _ tt)))
     (if-fit (calls_for_start (Then past event)) (Start ∷ []) (λ _. one-fit Start tt))
 
--- So it is where supervise begins.
+-- The same is true when supervise begins.
 pub asks_of_begin-fit : (past : History) → All IsAsk (asks_of_begin past)
 asks_of_begin-fit past =
     All-append IsAsk (record_of past) (start_of past) (one-fit _ tt)

@@ -1,4 +1,4 @@
--- Lists that grow, where they are kept.
+-- Lists that grow, if they are kept.
 use Rattle.std.proofs.Common.{List, [], ◌++◌, Option, Some, None, ap, sym, ◌∙◌, append_assoc}
 use Rattle.std.proofs.lemmas.List.{append-nil}
 use Rattle.svc_house.specs.Calls.{ExtendedWhileKept}

@@ -1,4 +1,4 @@
--- What a look makes of the facts of a house.
+-- How looking for events changes the facts of a house.
 use Rattle.std.proofs.Common.{◌≡◌, ◌≢◌, ℕ, ◌<◌, true, List, [], ◌∷◌, ◌++◌, Option, Some, None, IfSome, refl, sym, ap}
 use Rattle.std.proofs.Common.{◌∙◌, subst, arith}
 use Rattle.std.proofs.lemmas.List.{append-nil}
@@ -32,9 +32,9 @@ look_bytes events found before after known more =
     ∙ ap (λ l. bytes_in l ++ bytes_in (events_in found)) (sym (append-nil events))
     ∙ ap (λ l. l ++ bytes_in (events_in found)) known ∙ sym more
 
--- What the world answered
+-- What the world returned
 
--- What was found is what the polls answered.
+-- What was found is what the polls returned.
 event-found : (event : Event) (phase : Phase) → outcomes_in (event ∷ []) ≡ answers_in (polls_for event phase)
 event-found (Byte byte) phase.Starting = refl
 event-found (Byte byte) phase.Settling = refl
@@ -103,11 +103,11 @@ look_outcomes events (ByteThenDeath byte label) phase until old new known polls 
 
 -- What is taken
 
--- A byte leaves it up.
+-- After a control byte, a service that is up is still up.
 up-stays : (past : History) (byte : ℕ) → 0 < pid_of past → phase_of (Then past (Byte byte)) ≡ phase.Up
 up-stays past byte runs = grind (arith, runs)
 
--- So a death after it is taken.
+-- Therefore a death after it is taken.
 both-taken : (past : History) (byte : ℕ) (label : Tai64n) → 0 < pid_of past → phase_of past ≡ phase.Up
     → AreTaken past (Byte byte ∷ Death label ∷ [])
 both-taken past byte label runs up = (

@@ -1,4 +1,4 @@
--- A turn, of its two halves: what was pending, or was found, and its publication.
+-- A turn, in two halves: it finds what was pending or what happened, and publishes it.
 use Rattle.std.proofs.Common.{◌≡◌, ◌≢◌, ℕ, Option, [], ◌∷◌, ◌++◌, Result, Ok, Err, IfSome, IfOk, OnOk, OnErr, refl, sym}
 use Rattle.std.proofs.Common.{ap, ◌∙◌, subst, arith}
 use Rattle.tai_status.specs.Counted.{Rose}
@@ -19,7 +19,7 @@ use Rattle.svc_house.specs.Turn.{PassesGate}
 use Rattle.svc_house.specs.Turn.{Takes}
 use Rattle.svc_house.proofs.Extended.{extended-append}
 
--- what is known once the next event of those pending was published, or there was no memory for it
+-- what is known after the next pending event was published, or memory for it ran out
 pub record Published {I : Type 0} (mid : Standing I) (event : Event) (result : Result Turned HouseFault)
     (new : Standing I) : Type 0 where
   pub took : IfOk result (λ turned. turned ≡ Took event)
@@ -31,7 +31,7 @@ pub record Published {I : Type 0} (mid : Standing I) (event : Event) (result : R
   pub gate : OnOk result (new.passes ≡ mid.passes)
   pub refused : OnErr result (new ≡ mid)
 
--- what is known once something was found
+-- what is known after something was found
 pub record Found {I : Type 0} (old : Standing I) (event : Event) (mid : Standing I) : Type 0 where
   pub none : old.pending ≡ Empty
   pub same : IsSameHouse old mid
@@ -93,7 +93,7 @@ module _ {I : Type 0} where
         refused = tt;
       }))
 
-  -- There was no memory for it.
+  -- Memory for the event ran out.
   pub refused-found : (old mid new : Standing I) (event : Event) (result : Result Turned HouseFault)
       → Found old event mid
       → Published mid event result new → OnErr result (IsRefused old new)
@@ -108,7 +108,7 @@ module _ {I : Type 0} where
         calls = found.polls (some-pending mid.pending event found.next);
       })
 
-  -- A turn of a house whose world was asked to mend is one of the house before that.
+  -- A turn after the mending is a turn of the house before it.
   mended-turn : (old new : Standing I) (mends : Option ℕ) (turned : Turned)
       → IsTurn (record old { mends = mends }) turned new → IsTurn old turned new
   mended-turn old new mends Idle turn = record {

@@ -47,7 +47,7 @@ pub readings_in-requested : (asks : List Ask) → readings_in (requested asks) �
 readings_in-requested [] = refl
 readings_in-requested (ask ∷ asks) = readings_in-requested asks
 
--- What is known of the world's answers goes on with its calls.
+-- What is known of the world's results stays true after more calls.
 pub answers-extended : (old new : Option (List Call)) (more : List Call) (events others : List Event)
     → ExtendedWhileKept old new more
     → IfSome old (λ calls. events ≡ answers_in calls) → others ≡ events ++ answers_in more
@@ -57,7 +57,7 @@ answers-extended None (Some new) more events others extended known same = absurd
 answers-extended (Some old) (Some new) more events others extended known same =
     same ∙ ap (λ l. l ++ answers_in more) known ∙ sym (answers_in-append old more) ∙ ap answers_in (sym extended)
 
--- a world that has answered nothing
+-- a world that has returned nothing
 pub answered-none : (calls : Option (List Call)) → IfSome calls (λ calls. answers_in calls ≡ [])
     → IfSome calls (λ calls. [] ≡ answers_in calls)
 answered-none None none = tt

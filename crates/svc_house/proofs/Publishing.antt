@@ -1,4 +1,4 @@
--- What a publication makes of the facts of a house.
+-- How publishing an event changes the facts of a house.
 use Rattle.std.proofs.Common.{◌≡◌, ℕ, List, [], ◌∷◌, ◌++◌, Option, Some, None, IfSome, sym, ap, ◌∙◌, subst}
 use Rattle.std.proofs.Common.{append_assoc, arith}
 use Rattle.std.proofs.lemmas.List.{append-nil}
@@ -17,7 +17,7 @@ use Rattle.svc_house.specs.Pending.{events_in, rest_of}
 use Rattle.svc_house.specs.Standing.{HoldsLastReading}
 use Rattle.svc_house.proofs.Lists.{answers-extended, answers_in-requested, readings_in-append, readings_in-requested}
 
--- What was published, and then what is pending, stays.
+-- What was published, followed by what is pending, stays the same.
 pub found-same : (events : List Event) (event : Event) (pending : Pending)
     → events_in pending ≡ event ∷ events_in (rest_of pending)
     → (events ++ event ∷ []) ++ events_in (rest_of pending) ≡ events ++ events_in pending
@@ -32,7 +32,7 @@ publish_outcomes events after asks old new same extended known =
     (ap outcomes_in same ∙ sym (append-nil (outcomes_in events))
     ∙ ap (λ l. outcomes_in events ++ l) (sym (answers_in-requested asks)))
 
--- What is left pending is taken after the event.
+-- What stays pending is taken after the event.
 left_taken : (opening : State) (events : List Event) (event : Event) (pending : Pending)
     → events_in pending ≡ event ∷ events_in (rest_of pending)
     → AreTaken (followed_by (Opened opening) events) (events_in pending)
@@ -53,7 +53,7 @@ publish_ready opening other events after event pending rest same more is next ta
     subst (λ (t : State × List Event × Pending). AreTaken (followed_by (Opened t.0) t.1) (events_in t.2))
     (λ i. (sym same i, sym more i, sym is i)) (left_taken opening events event pending next taken)
 
--- Nothing that is left pending is a reading.
+-- Nothing that stays pending is a clock reading.
 pub rest_reading : (pending : Pending) (calls : Option (List Call)) → HoldsLastReading (rest_of pending) calls
 rest_reading Empty calls = tt
 rest_reading (One event) calls = tt
@@ -78,7 +78,7 @@ published_reading event asks (Some old) (Some new) extended known =
     (ap readings_in extended ∙ readings_in-append old (requested asks)
     ∙ ap (λ l. readings_in old ++ l) (readings_in-requested asks) ∙ append-nil (readings_in old)) known
 
--- the first of two lists that are the same
+-- two equal lists have the same first item
 first-same : (a b : Event) (xs ys : List Event) → ◌≡◌ {A = List Event} (a ∷ xs) (b ∷ ys) → a ≡ b
 first-same a b xs ys e = cc (e)
 

@@ -15,7 +15,7 @@ opening-same : (note : Note) (reader : Reader) → note_station note ≡ reader_
     → note.opening ≡ reader_opening reader
 opening-same note reader same = ap (λ v. v.opening) same
 
--- It knows just what the note reported.
+-- It knows exactly what the note says.
 pub whole-known : (note : Note) (reader : Reader) → note_station note ≡ reader_station reader
     → phase_of (history_in note) ≡ phase.Gone → IsPrefix (told_by note) (known_to reader)
     → are_taken (Opened (reader_opening reader)) (known_to reader) ≡ true → known_to reader ≡ told_by note
@@ -23,7 +23,7 @@ whole-known note reader same gone starts taken =
     ended note.opening (told_by note) (known_to reader) starts
     (ap (λ m. are_taken (Opened m) (known_to reader)) (opening-same note reader same) ∙ taken) gone
 
--- So it is at the same history.
+-- Therefore it has the same history.
 pub same-history : (note : Note) (reader : Reader) → note_station note ≡ reader_station reader
     → known_to reader ≡ told_by note → history_at reader ≡ history_in note
 same-history note reader same known = λ i. followed_by (Opened (sym (opening-same note reader same) i)) (known i)

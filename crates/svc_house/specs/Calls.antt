@@ -1,4 +1,4 @@
--- What a world was asked and what it answered, as one list of calls, and what happened, as one list of events.
+-- What a world was asked and what it returned, as one list of calls; and what happened, as one list of events.
 use Rattle.std.specs.Prelude.{◌≡◌, ℕ, ◌+◌, ◌<◌, Bool, true, false, List, [], ◌∷◌, ◌++◌, map, Option, Some, None, ⊤}
 use Rattle.tai_status.specs.Label.{Tai64n}
 use Rattle.sup_core.specs.declared.asks.Ask.{Ask}
@@ -14,14 +14,14 @@ use Rattle.svc_house.specs.declared.call.StartAnswer.TheVariants as start
 use Rattle.svc_house.specs.declared.pending.Pending.{Pending}
 use Rattle.svc_house.specs.declared.pending.Pending.TheVariants.{Empty, One, ByteThenDeath}
 
--- A list that is kept was extended by these. It may stop to be kept, as where there is no memory for more, and is not
+-- A list that is kept was extended by these. It may stop being kept, for example if memory runs out, and is then never
 -- kept again.
 abbrev pub ExtendedWhileKept : {A : Type 0} → Option (List A) → Option (List A) → List A → Type 0
 ExtendedWhileKept old None more = ⊤
 ExtendedWhileKept None (Some new) more = ⊥
 ExtendedWhileKept (Some old) (Some new) more = new ≡ old ++ more
 
--- A count that is kept rose by one. It goes on being kept.
+-- A count that is kept rose by one. It stays kept.
 abbrev pub CountsOne : Option ℕ → Option ℕ → Type 0
 CountsOne None new = ⊤
 CountsOne (Some old) None = ⊥
@@ -32,7 +32,7 @@ abbrev pub unless : {A : Type 0} → Bool → List A → Option (List A)
 unless true xs = None
 unless false xs = Some xs
 
--- what there is, as a list
+-- an optional value as a list
 abbrev pub as_list : {A : Type 0} → Option A → List A
 as_list None = []
 as_list (Some x) = x ∷ []
@@ -44,31 +44,31 @@ abbrev pub IsAsk : Ask → Type 0
 IsAsk (Signal sig pid) = 0 < pid
 IsAsk other = ⊤
 
--- The condition on how a start ended: a process has a number of at least 1.
+-- The condition on the result of a start: a process has a number of at least 1.
 abbrev pub IsAnswer : StartAnswer → Type 0
 IsAnswer (start.Started pid label) = 0 < pid
 IsAnswer (start.Failed label) = ⊤
 
--- the event that an answer to a start is
+-- the event of a start's result
 abbrev pub event_of : StartAnswer → Event
 event_of (start.Started pid label) = Started pid label
 event_of (start.Failed label) = StartFailed label
 
--- the call that was a poll for the answer to a start
+-- the call that polled for the result of a start
 abbrev pub start_poll : Option StartAnswer → List Call
 start_poll None = NoStart ∷ []
 start_poll (Some answer) = Answered (event_of answer) ∷ []
 
--- the call that was a poll for a death
+-- the call that polled for a death
 abbrev pub death_poll : Option Tai64n → List Call
 death_poll None = NoDeath ∷ []
 death_poll (Some label) = Answered (Death label) ∷ []
 
--- the calls that say these asks
+-- the calls that make these asks
 abbrev pub requested : List Ask → List Call
 requested asks = map Requested asks
 
--- the starts, failed starts and deaths that were answered in these calls
+-- the starts, failed starts and deaths that the world returned in these calls
 abbrev pub answers_in : List Call → List Event
 answers_in [] = []
 answers_in (Answered event ∷ calls) = event ∷ answers_in calls
@@ -102,15 +102,15 @@ outcomes_in (event ∷ events) = event ∷ outcomes_in events
 
 -- Polls
 
--- The calls with which one event is found. While the service is up a death is polled before a control byte is looked
--- for; while it is down no call of the world is made.
+-- The calls with which one event is found. While the service is up, the world is polled for a death, and then the inbox
+-- is asked for a control byte. While it is down, the world is not called.
 abbrev pub polls_for : Event → Phase → List Call
 polls_for (Byte byte) phase.Up = NoDeath ∷ []
 polls_for (Byte byte) other = []
 polls_for (Clock label) other = Read label ∷ []
 polls_for event other = Answered event ∷ []
 
--- the calls with which this was found
+-- the calls with which these events were found
 abbrev pub polls_before : Pending → Phase → List Call
 polls_before Empty phase = []
 polls_before (One event) phase = polls_for event phase

@@ -6,8 +6,8 @@ use Rattle.sup_core.specs.Rules.{IsEvent, is_taken}
 use Rattle.svc_house.specs.declared.pending.Pending.{Pending}
 use Rattle.svc_house.specs.declared.pending.Pending.TheVariants.{Empty, One, ByteThenDeath}
 
--- What was found is an event that a machine takes where it stands so; a control byte and a death come together while
--- the service is up, and it has a process then.
+-- The machine takes what was found. A control byte and a death are found together only while the service is up, and it
+-- then has a process.
 abbrev pub IsReady : State → Pending → Type 0
 IsReady state Empty = ⊤
 IsReady state (One event) = IsEvent event × (is_taken state.phase state.until event ≡ true)

@@ -5,7 +5,7 @@ use Rattle.sup_core.specs.declared.event.Event.TheVariants.{Byte, Death}
 use Rattle.svc_house.specs.declared.pending.Pending.{Pending}
 use Rattle.svc_house.specs.declared.pending.Pending.TheVariants.{Empty, One, ByteThenDeath}
 
--- the events pending, in the order in which they are published
+-- the pending events, in the order in which they are published
 abbrev pub events_in : Pending → List Event
 events_in Empty = []
 events_in (One event) = event ∷ []
@@ -15,7 +15,7 @@ abbrev pub is_empty : Pending → Bool
 is_empty Empty = true
 is_empty other = false
 
--- what is pending once the first event is published
+-- what is pending after the first event is published
 abbrev pub rest_of : Pending → Pending
 rest_of (ByteThenDeath byte label) = One (Death label)
 rest_of other = Empty

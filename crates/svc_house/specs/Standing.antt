@@ -1,4 +1,4 @@
--- How a service stands between two turns of its loop.
+-- The state of a service between two turns of its loop.
 use Rattle.std.specs.Prelude.{◌≡◌, ℕ, List, ◌++◌, Option, IfSome, ⊤}
 use Rattle.atomic_table.specs.Seated.{TableId}
 use Rattle.sup_core.specs.declared.event.Event.{Event}
@@ -15,26 +15,26 @@ use Rattle.svc_house.specs.Calls.{bytes_in, outcomes_in, answers_in, IsLastReadi
 use Rattle.svc_house.specs.Pending.{events_in}
 
 pub record Standing (I : Type 0) : Type 0 where
-  -- which station it publishes to, the machine that the station was opened with, and what was published
+  -- the station that it publishes to, the machine that the station was opened with, and what was published
   pub station : Origin
   pub opening : State
   pub events : List Event
   -- what was found and is not published yet
   pub pending : Pending
-  -- what the world was asked and what it answered, where it keeps that
+  -- what the world was asked and what it returned, if the world keeps that
   pub calls : Option (List Call)
-  -- how often the world was asked to mend, where it counts that
+  -- how often the world was asked to mend, if it counts that
   pub mends : Option ℕ
-  -- where its control bytes come from: which mailbox, if any, what it gave, and how often it had none
+  -- the source of its control bytes: the mailbox, if there is one; what the source gave; and how often it had none
   pub inbox : I
   pub source : Option (TableId × ℕ)
   pub given : List ℕ
   pub nones : ℕ
-  -- how often its gate was passed, where that is counted
+  -- how often its gate was passed, if that is counted
   pub passes : Option ℕ
 
 module _ {I : Type 0} where
-  -- a service with this writer and this pending, and what its world, inbox and gate report
+  -- a service with this writer and these pending events, and what its world, inbox and gate show
   abbrev pub standing : Writer → Pending → Option (List Call) → Option ℕ
       → I → Option (TableId × ℕ) → List ℕ → ℕ → Option ℕ → Standing I
   standing writer pending calls mends inbox source given nones passes = record {
@@ -55,25 +55,26 @@ module _ {I : Type 0} where
   abbrev pub past_of : Standing I → History
   past_of s = followed_by (Opened s.opening) s.events
 
-  -- where its machine stands
+  -- the state of its machine
   abbrev pub state_in : Standing I → State
   state_in s = state_of (past_of s)
 
-  -- what was published, and then what is pending
+  -- what was published, followed by what is pending
   abbrev pub found : Standing I → List Event
   found s = s.events ++ events_in s.pending
 
--- A clock reading pending is the last one that the world gave.
+-- A clock reading that is pending is the last one that the world gave.
 abbrev pub HoldsLastReading : Pending → Option (List Call) → Type 0
 HoldsLastReading (One event) calls = IfSome calls (IsLastReading event)
 HoldsLastReading other calls = ⊤
 
--- What holds of every house.
+-- The conditions on every house.
 pub record IsHouse {I : Type 0} (s : Standing I) : Type 0 where
-  -- The control bytes that were published, and then one pending, are those that the inbox gave.
+  -- The control bytes that were published, and then a pending one, are those that the inbox gave.
   pub bytes : bytes_in (found s) ≡ s.given
-  -- The starts, failed starts and deaths that were published, and then one pending, are those that the world answered.
+  -- The starts, failed starts and deaths that were published, and then a pending one, are those that the world
+  -- returned.
   pub outcomes : IfSome s.calls (λ calls. outcomes_in (found s) ≡ answers_in calls)
-  -- What is pending is taken, one event after the other.
+  -- The machine takes the pending events, one after another.
   pub ready : AreTaken (past_of s) (events_in s.pending)
   pub reading : HoldsLastReading s.pending s.calls

@@ -27,7 +27,7 @@ abbrev pub ReadEarly : Option Tai64n → Option (List Call) → Option (List Cal
 ReadEarly until old new =
     (label : Tai64n) × ExtendedWhileKept old new (Read label ∷ []) × (is_reached until label ≡ false)
 
--- Each poll that the phase has was made, and had nothing.
+-- Each poll of the phase was made, and found nothing.
 abbrev pub PolledInVain : Phase → Option Tai64n → Option (List Call) → Option (List Call) → Type 0
 PolledInVain phase.Starting until old new = ExtendedWhileKept old new (NoStart ∷ [])
 PolledInVain phase.Settling until old new = ReadEarly until old new
@@ -35,12 +35,12 @@ PolledInVain phase.Resting until old new = ReadEarly until old new
 PolledInVain phase.Up until old new = ExtendedWhileKept old new (NoDeath ∷ [])
 PolledInVain other until old new = new ≡ old
 
--- A turn is about this: what was pending, else what was found.
+-- A turn is about these events: those that were pending, or those that were found if none was pending.
 abbrev pub IsAbout : Pending → Pending → Type 0
 IsAbout Empty found = ⊤
 IsAbout pending found = found ≡ pending
 
--- the polls of a turn about this, which makes none where something was pending
+-- the polls of a turn about these events; there are none if something was pending
 abbrev pub polls_with : Pending → Pending → Phase → List Call
 polls_with Empty found phase = polls_before found phase
 polls_with pending found phase = []
@@ -50,28 +50,29 @@ module _ {I : Type 0} where
   abbrev pub phase_in : Standing I → Phase
   phase_in s = (state_in s).phase
 
-  -- the polls of a turn about this
+  -- the polls of a turn about these events
   abbrev pub polls_of : Standing I → Pending → List Call
   polls_of s found = polls_with s.pending found (phase_in s)
 
--- Where control bytes are taken and nothing was pending, one was looked for: it was found, or there was none.
+-- If control bytes are taken and nothing was pending, the inbox was asked for one: it gave one, or had none.
 abbrev pub Listens : {I : Type 0} → Standing I → Pending → Standing I → Type 0
 Listens old found new =
     old.pending ≡ Empty → takes_bytes (phase_in old) ≡ true → has_byte found ≡ false → Rose old.nones new.nones
 
--- The gate was passed once where the answer to a start is looked at, else not at all.
+-- The gate was passed once if the result of a start is polled, and not at all otherwise.
 abbrev pub PassesGate : Pending → Phase → Option ℕ → Option ℕ → Type 0
 PassesGate Empty phase.Starting old new = CountsOne old new
 PassesGate pending phase old new = new ≡ old
 
--- It is the same service: its station, and the mailbox that its bytes come from, stay.
+-- The service is the same: its station, and the mailbox of its control bytes, stay.
 pub record IsSameHouse {I : Type 0} (old new : Standing I) : Type 0 where
   pub station : new.station ≡ old.station
   pub opening : new.opening ≡ old.opening
   pub source : new.source ≡ old.source
 
--- An event was published, and then its asks were reported, in order. It was pending, or was found in this turn; a death
--- that was found with a control byte is pending now. A clock reading is the last one that the world gave.
+-- An event was published, and then the world was asked what the event asks for, in order. The event was pending, or was
+-- found in this turn. A death that was found with a control byte is pending now. A clock reading is the last one that
+-- the world gave.
 pub record Takes {I : Type 0} (old : Standing I) (event : Event) (new : Standing I) : Type 0 where
   pub pending : Pending
   pub about : IsAbout old.pending pending
@@ -82,7 +83,7 @@ pub record Takes {I : Type 0} (old : Standing I) (event : Event) (new : Standing
   pub calls : ExtendedWhileKept old.calls new.calls (polls_of old pending ++ requested (asks_of (past_of old) event))
   pub reading : IfSome new.calls (IsLastReading event)
 
--- Nothing was pending and nothing was found, so nothing was published or reported.
+-- Nothing was pending and nothing was found, so nothing was published or asked.
 pub record IsIdle {I : Type 0} (old new : Standing I) : Type 0 where
   pub none : old.pending ≡ Empty
   pub polls : PolledInVain (phase_in old) (state_in old).until old.calls new.calls
@@ -97,7 +98,7 @@ IsTurn old Idle new = IsIdle old new
 IsTurn old (Took event) new = Takes old event new
 IsTurn old Ended new = new ≡ record old { mends = new.mends }
 
--- There was no memory to publish an event. What was found is pending, and nothing was published or reported.
+-- There was no memory to publish an event. What was found is pending, and nothing was published or asked.
 pub record IsRefused {I : Type 0} (old new : Standing I) : Type 0 where
   pub about : IsAbout old.pending new.pending
   pub some : new.pending ≢ Empty

@@ -1,4 +1,4 @@
-//! What can be read of a service once it is gone.
+//! What can be read of a service after it is gone.
 ghost use Rattle.std.specs.Prelude.{◌≡◌, IfOk};
 ghost use mathlib.Core.List.{IsPrefix};
 ghost use Rattle.sup_core.specs.History.{phase_of, state_of};
@@ -14,9 +14,9 @@ use svc_station::audit::last_machine;
 use svc_station::note::Note;
 use svc_station::reader::Reader;
 
-/// What a reader reads once it has learnt a note that the writer reported when the service was gone: the machine after
-/// the whole history, and the trace of that, which replays to that machine. `AllocError` where there is no memory for
-/// the trace.
+/// Returns what a reader reads after it learns a note that the writer made when the service was gone. It reads the
+/// machine after the whole history, and the trace of that history, which replays to that machine. `AllocError` is
+/// returned if there is no memory for the trace.
 pub fn last_reading<A: Allocator>(
     alloc: A,
     reader: &mut Reader,

@@ -1,29 +1,28 @@
-//! What is asked of a world, and what it answers.
+//! What a world is asked, and what it returns.
 use sup_core::{Ask, Event};
 use tai_status::Label;
 
-/// One call of a world, with its answer. Contracts say by lists of these what a world was asked and what it
-/// answered.
+/// One call of a world, with its result. Contracts use lists of these for what a world was asked and what it returned.
 #[derive(Clone, Copy, Debug, PartialEq, Eq)]
 pub enum Call {
-    /// It was given this ask.
+    /// The world was given this ask.
     Requested(Ask),
-    /// It answered this start, failed start or death.
+    /// The world returned this start, failed start or death.
     Answered(Event),
-    /// It was polled for the answer to a start, and had none.
+    /// The world was polled for the result of a start, and had none.
     NoStart,
-    /// It was polled for a death, and had none.
+    /// The world was polled for a death, and had none.
     NoDeath,
-    /// Its clock was read.
+    /// The clock was read.
     Read(Label),
 }
 
-/// How a start ended.
+/// The result of a start.
 #[derive(Clone, Copy, Debug, PartialEq, Eq)]
 pub enum StartAnswer {
-    /// It made this process, whose number is at least 1.
+    /// The start made this process. Its number is at least 1.
     Started { pid: u32, label: Label },
-    /// It failed.
+    /// The start failed.
     Failed { label: Label },
 }
 
@@ -31,7 +30,7 @@ impl StartAnswer {
     ghost use Rattle.std.specs.Prelude.{◌≡◌};
     ghost use Rattle.svc_house.specs.Calls.{event_of};
 
-    /// The event that it is.
+    /// Returns the event of this result.
     pub fn event(self) -> Event
         ensures { result ≡ event_of self }
     {

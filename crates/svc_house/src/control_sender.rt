@@ -1,4 +1,4 @@
-//! How a control byte comes to a service from another thread.
+//! How a control byte from another thread reaches a service.
 ghost use Rattle.std.specs.Prelude.{◌≡◌, ◌++◌, ◌∷◌, [], IfErr, OnErr, OnOk};
 ghost use Rattle.svc_mail.specs.Ends.{IsSameSender, JoinsHistory, WasFull, heard_by, posted, seen_by};
 ghost use Rattle.svc_house.specs.Mail.{sender_in};
@@ -10,7 +10,7 @@ use std::sync::{Arc, Wait};
 use svc_mail::letter::Full;
 use svc_mail::sender::Sender;
 
-/// A sender of a service's mailbox, with the notifier that the service's thread waits for.
+/// A sender of a service's mailbox, with the notifier that the service's thread waits on.
 #[derive(Drop)]
 pub struct ControlSender<A: Allocator = Global> {
     pub(crate) sender: Sender<u8, A>,
@@ -18,7 +18,7 @@ pub struct ControlSender<A: Allocator = Global> {
 }
 
 impl<A: Allocator + Clone> ControlSender<A> {
-    /// Posts by this sender, and notifies this notifier.
+    /// Returns a sender that posts by this sender, and notifies this notifier.
     pub fn new(sender: Sender<u8, A>, notifier: Arc<Notifier, A>) -> ControlSender<A>
         ensures { sender_in result ≡ sender }
     {

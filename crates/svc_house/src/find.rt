@@ -17,13 +17,13 @@ use std::sync::Wait;
 use sup_core::{Event, Machine, Phase};
 use tai_status::Label;
 
-/// Both, while the service is up.
+/// Returns both, while the service is up.
 fn byte_then_death(machine: &Machine, byte: u8, label: Label) -> Pending
     requires { machine.now.phase ≡ phase.Up }
     ensures both { result ≡ pending.ByteThenDeath byte label }
     ensures ready { IsReady machine.now result }
 {
-    // The view says how a machine stands: one that is up has a process.
+    // Reading the view gives the prover its invariant: a machine that is up has a process.
     let _process = machine.view().pid;
     Pending::ByteThenDeath { byte, label }
 }

@@ -1,19 +1,19 @@
-//! When a start may be looked at.
+//! When the result of a start may be polled.
 use std::sync::Wait;
 
-/// What says when the answer to a start may be looked at. Contracts see how often it was passed, where it counts that.
+/// Decides when the result of a start may be polled. Contracts see how often the gate was passed, if it counts that.
 pub trait Gate {
     ghost use Rattle.std.specs.Prelude.{ℕ, Option, None};
     ghost use Rattle.svc_house.specs.Calls.{CountsOne};
 
     ghost passes: { Self → Option ℕ } = { λ _. None };
 
-    /// Returns when it may be looked at.
+    /// Returns when the result may be polled.
     fn pass<R: Wait>(&mut self, rt: &R)
         ensures { CountsOne (passes self.old) (passes self.new) };
 }
 
-/// The gate that is always open.
+/// A gate that is always open.
 #[derive(Drop)]
 pub struct OpenGate;
 

@@ -19,8 +19,8 @@ use sup_core::{Asks, Event, Reply};
 use svc_station::writer::Writer;
 use tai_status::Label;
 
-/// One service: its world, where its control bytes come from, when a start may be looked at, and the writer of its
-/// station. Contracts see it as `Standing`, of which `IsHouse` always holds.
+/// One service: its world, the source of its control bytes, the gate before the result of a start, and the writer of
+/// its station. Contracts see it as `Standing`, and `IsHouse` is always true of it.
 pub struct House<W: World, I: Inbox, G: Gate + Drop> {
     pub(crate) world: W,
     pub(crate) inbox: I,
@@ -41,7 +41,7 @@ impl<W: World, I: Inbox, G: Gate + Drop> Model for House<W, I, G> {
         h.inbox (I.source h.inbox) (I.given h.inbox) (I.nones h.inbox) (G.passes h.gate)) };
 }
 
-/// Publishes an event that is taken, and then says what it asks.
+/// Publishes an event that is taken, and then asks the world for what the event asks for.
 fn publish_and_request<W: World, R: Wait>(
     rt: &R,
     event: Event,
@@ -81,8 +81,8 @@ impl<W: World, I: Inbox, G: Gate + Drop> House<W, I, G> {
     ghost use Rattle.svc_house.specs.Turn.{polls_of};
     ghost use Rattle.svc_house.specs.declared.pending.Pending.TheVariants as pending;
 
-    /// A service whose station is new. The world is asked `first`, in order, and nothing else: the asks of the
-    /// machine's begin, for a service that begins.
+    /// Opens a service with a new station. The world is asked `first`, in order, and nothing else. If the service
+    /// begins, these are the asks with which its machine begins.
     pub fn open(world: W, inbox: I, gate: G, writer: Writer, first: Asks) -> House<W, I, G>
         requires published { published writer ≡ [] }
         requires given { I.given inbox ≡ [] }
@@ -106,17 +106,26 @@ impl<W: World, I: Inbox, G: Gate + Drop> House<W, I, G> {
         }
     }
 
-    /// One turn. The world is asked to mend first, whatever the turn finds. Then what is pending comes first. Else what
-    /// the phase can take is looked for: while the service starts how that ended, while it settles or rests the clock,
-    /// while it is down a control byte, and while it is up its death and then a control byte, so that one that dies at
-    /// once still hears its letters. What was found is published, and then the world is asked for what that wants, in
-    /// order; where both were found the byte is published, and the death stays pending.
+    /// Makes one turn. First it asks the world to mend, whatever the turn finds. Then it takes what is pending. If
+    /// nothing is pending, it looks for what the phase can take:
+    /// - the result of the start, while the service starts
+    /// - the clock, while it settles or rests
+    /// - a control byte, while it is down
+    /// - a death, and then a control byte, while it is up; a service that dies at once therefore still gets its control
+    ///   bytes
     ///
-    /// It never waits for something to happen: a turn that finds nothing is `Idle`. What can end that is a letter while
-    /// the service is up or down, the world's answer while it starts or is up, the time `until` while it settles or
-    /// rests, and the end of the rest that the world allows (`longest_rest`).
+    /// What was found is published, and then the world is asked for what the event asks for, in order. If both a byte
+    /// and a death were found, the byte is published, and the death stays pending.
     ///
-    /// `OutOfMemory` where the publication finds no room: what was found stays pending, and nothing was reported.
+    /// A turn never waits for something to happen: a turn that finds nothing is `Idle`. What can happen next depends on
+    /// the phase:
+    /// - a letter comes, while the service is up or down
+    /// - the world has a result, while the service starts or is up
+    /// - the time `until` is reached, while it settles or rests
+    /// - the rest that the world allows (`longest_rest`) ends
+    ///
+    /// `OutOfMemory` is returned if there is no room to publish the event: what was found stays pending, and nothing
+    /// was asked.
     pub fn turn<R: Wait>(&mut self, rt: &R) -> Result<Turned, HouseFault>
         ensures same { IsSameHouse self.old self.new }
         ensures mended { CountsOne self.old.mends self.new.mends }
@@ -136,7 +145,7 @@ impl<W: World, I: Inbox, G: Gate + Drop> House<W, I, G> {
         self.world.mend();
     }
 
-    // A turn behind the mending.
+    // Makes a turn after the world was asked to mend.
     fn turn_mended<R: Wait>(&mut self, rt: &R) -> Result<Turned, HouseFault>
         ensures same { IsSameHouse self.old self.new }
         ensures mends { self.new.mends ≡ self.old.mends }
@@ -156,7 +165,7 @@ impl<W: World, I: Inbox, G: Gate + Drop> House<W, I, G> {
         }
     }
 
-    // Looks for what the phase can take, and keeps it as pending. It answers the event that is next now.
+    // Looks for what the phase can take, and keeps it as pending. Returns the event that is next now.
     fn look<R: Wait>(&mut self, rt: &R) -> Option<Event>
         requires pending { self.old.pending ≡ pending.Empty }
         requires phase { is_gone (phase_in self.old) ≡ false }
@@ -182,7 +191,7 @@ impl<W: World, I: Inbox, G: Gate + Drop> House<W, I, G> {
         self.pending.next()
     }
 
-    // Publishes the next event pending, and then says what it asks.
+    // Publishes the next pending event, and then asks for what it asks for.
     fn publish<R: Wait>(&mut self, rt: &R, event: Event) -> Result<Turned, HouseFault>
         requires { IsNext event self.old.pending }
         ensures same { IsSameHouse self.old self.new }
@@ -207,19 +216,19 @@ impl<W: World, I: Inbox, G: Gate + Drop> House<W, I, G> {
         }
     }
 
-    /// How long it may rest before its next turn, by what its world says. None: until it is notified.
+    /// Returns how long the service may rest before its next turn, as its world says. `None`: until it is notified.
     pub fn longest_rest(&self) -> Option<Duration> {
         self.world.longest_rest()
     }
 
-    /// When settling or resting ends.
+    /// Returns when settling or resting ends.
     pub fn until(&self) -> Option<Label>
         ensures { result ≡ (state_in self.now).until }
     {
         self.writer.machine().until()
     }
 
-    /// Its parts, with what is pending. `facts` says what holds of them.
+    /// Returns the parts of the service, with what is pending. `facts` says what is true of them.
     pub fn take_apart(self) -> (W, I, Writer, Pending)
         ensures world { W.calls result.0 ≡ self.calls }
         ensures inbox { result.1 ≡ self.inbox }

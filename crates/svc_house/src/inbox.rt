@@ -1,8 +1,9 @@
-//! Where the control bytes of a service come from.
+//! The source of a service's control bytes.
 use std::sync::Wait;
 
-/// A source of control bytes. Contracts see the bytes that it gave, in order (`given`), how often it had none (`nones`,
-/// a count which may stand at its end), and which mailbox, of how many senders, it takes from (`source`), if it does.
+/// A source of control bytes. Contracts see the bytes that it gave, in order (`given`), and how often it had none
+/// (`nones`, a count that may be at its maximum). If it takes from a mailbox, they see which one, and with how many
+/// senders (`source`).
 pub trait Inbox {
     ghost use Rattle.std.specs.Prelude.{◌≡◌, ◌++◌, ℕ, Option, None, List};
     ghost use Rattle.atomic_table.specs.Seated.{TableId};
@@ -15,7 +16,7 @@ pub trait Inbox {
 
     ghost source: { Self → Option (TableId × ℕ) } = { λ _. None };
 
-    /// The next byte, where there is one.
+    /// Takes the next byte, if there is one.
     fn take<R: Wait>(&mut self, rt: &R) -> Option<u8>
         ensures source { source self.new ≡ source self.old }
         ensures given { given self.new ≡ given self.old ++ as_list result }

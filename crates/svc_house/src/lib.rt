@@ -1,12 +1,12 @@
-//! The loop of one service: what happens is published, and then the world is asked for what that wants.
+//! The loop of one service: it publishes what happens, and then asks the world for what that asks for.
 //!
 //! A `House` joins a machine that is published at a station (`svc_station`), the control bytes of an `Inbox`, and a
-//! `World` of processes, a status file and a clock. `House::turn` finds one event, publishes it and asks of the world
-//! what the table of supervise asks. Contracts see a house as `Standing` (specs/Standing), and what one turn does as
+//! `World` of processes, a status file and a clock. `House::turn` finds one event, publishes it, and asks the world
+//! what supervise's table says. Contracts see a house as `Standing` (specs/Standing), and what one turn does as
 //! `IsTurn` (specs/Turn).
 //!
-//! What no contract here says, and is only tested: that a poll is answered by what happened (a world that never answers
-//! meets the clauses), and that memory serves.
+//! Some facts are in no contract, and only tested. A poll returns what happened: a world that never returns anything
+//! meets the clauses. Calls succeed when there is enough memory.
 #![tactic(auto)]
 
 mod audit;

@@ -1,4 +1,4 @@
-//! Control bytes out of a mailbox.
+//! Control bytes from a mailbox.
 use crate::inbox::Inbox;
 use std::alloc::{Allocator, Global};
 use std::sync::Wait;
@@ -15,14 +15,14 @@ impl<A: Allocator> MailInbox<A> {
     ghost use Rattle.std.specs.Prelude.{◌≡◌};
     ghost use Rattle.svc_house.specs.Mail.{receiver_in};
 
-    /// The inbox over this receiver's mailbox. All letters that the receiver took before count as given.
+    /// Returns the inbox over this receiver's mailbox. All letters that the receiver took before count as given.
     pub fn new(receiver: Receiver<u8, A>) -> MailInbox<A>
         ensures { receiver_in result ≡ receiver }
     {
         MailInbox { receiver, nones: 0 }
     }
 
-    /// The receiver, with the letters that it took.
+    /// Returns the receiver, with the letters that it took.
     pub fn receiver(self) -> Receiver<u8, A>
         ensures { result ≡ receiver_in self }
     {

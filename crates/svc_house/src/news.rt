@@ -1,12 +1,13 @@
-//! What a notification reports.
+//! What a notification is about.
 use std::alloc::{AllocError, Allocator};
 use std::sync::atomic::{AtomicBool, Ordering};
 use std::sync::{Mutex, OnceLock, Wait};
 use svc_mail::letter::Full;
 use svc_mail::sender::Sender;
 
-/// That something new stands where a thread looks for it. Only what puts it there gives this, so that no notification
-/// comes before its news; and it has no end but `Notifier::notify`, so that no news is left untold.
+/// Evidence that something new is in a place that a thread looks at. Only the act of putting it there creates this, so
+/// no notification comes before its news. It ends only in `Notifier::notify`, so no news is left without a
+/// notification.
 #[must_use]
 pub struct News {
     put: (),
@@ -40,13 +41,13 @@ impl News {
         News { put: () }
     }
 
-    /// Puts a value in its place, instead of what is there.
+    /// Puts a value in its place, and replaces what is there.
     pub fn put<T: Drop, R: Wait>(rt: &R, place: &Mutex<Option<T>>, value: T) -> News {
         *place.lock(rt) = Some(value);
         News { put: () }
     }
 
-    /// Puts a value in its place, where none is there.
+    /// Puts a value in its place, if none is there.
     pub fn set<T: Drop, R: Wait>(rt: &R, place: &OnceLock<T>, value: T) -> News {
         let _ = place.set(rt, value);
         News { put: () }
@@ -62,17 +63,17 @@ impl News {
         Ok(News { put: () })
     }
 
-    /// So many bytes were moved, and there is something to take, or room.
+    /// States that this many bytes were moved, and that there is something to take, or room.
     pub fn moved(_bytes: u64) -> News {
         News { put: () }
     }
 
-    /// The kernel did it, as it ends a process, and this thread has seen it.
+    /// States that the kernel did it when it ended a process, and that this thread has seen it.
     pub fn seen() -> News {
         News { put: () }
     }
 
-    /// The same news for two threads.
+    /// Splits the news for two threads.
     pub fn twice(self) -> (News, News) {
         let News { put } = self;
         (News { put }, News { put })

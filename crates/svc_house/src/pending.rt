@@ -5,9 +5,9 @@ use tai_status::Label;
 /// Events that were found and are not published yet.
 #[derive(Clone, Copy, Debug, PartialEq, Eq)]
 pub enum Pending {
-    /// None.
+    /// No event is pending.
     Empty,
-    /// One event.
+    /// One event is pending.
     One(Event),
     /// A control byte, and a death that was found with it and is published after it.
     ByteThenDeath { byte: u8, label: Label },
@@ -18,7 +18,7 @@ impl Pending {
     ghost use Rattle.svc_house.specs.Pending.{IsNext, rest_of};
     ghost use Rattle.svc_house.specs.declared.pending.Pending.TheVariants as pending;
 
-    /// The event that is published next.
+    /// Returns the event that is published next.
     pub fn next(&self) -> Option<Event>
         ensures { MatchOption result (self.now ≡ pending.Empty) (λ event. IsNext event self.now) }
     {
@@ -29,7 +29,7 @@ impl Pending {
         }
     }
 
-    /// What is pending once that one is published.
+    /// Returns what is pending after that event is published.
     pub fn rest(&self) -> Pending
         ensures { result ≡ rest_of self.now }
     {

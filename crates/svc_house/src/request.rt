@@ -1,4 +1,4 @@
-//! How what is asked reaches the world.
+//! How asks reach the world.
 ghost use Rattle.std.specs.Prelude.{◌≡◌, [], ◌∷◌, All};
 ghost use Rattle.svc_house.specs.declared.call.Call.{Call};
 ghost use Rattle.svc_house.specs.Calls.{ExtendedWhileKept, IsAsk, requested};
@@ -18,7 +18,7 @@ fn request_one<W: World>(world: &mut W, ask: &Ask)
     }
 }
 
-/// Passes the asks on, in order.
+/// Makes these asks of the world, in order.
 pub(crate) fn request<W: World>(world: &mut W, asks: &[Ask])
     requires { All IsAsk asks.now }
     ensures calls { ExtendedWhileKept (W.calls world.old) (W.calls world.new) (requested asks.now) }

@@ -7,7 +7,7 @@ use thiserror::Error;
 pub enum Turned {
     /// Nothing had happened.
     Idle,
-    /// This event was published, and its asks were reported.
+    /// This event was published, and the world was asked what it asks for.
     Took(Event),
     /// The service is gone.
     Ended,
@@ -16,7 +16,7 @@ pub enum Turned {
 /// Why a turn was not done.
 #[derive(Clone, Copy, Debug, PartialEq, Eq, Error)]
 pub enum HouseFault {
-    /// There was no memory to publish the event, which stays pending.
+    /// There was no memory to publish the event. It stays pending.
     #[error("OutOfMemory")]
     OutOfMemory,
 }

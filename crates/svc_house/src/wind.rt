@@ -26,13 +26,13 @@ use svc_station::writer::Writer;
 /// Why a service was not wound up.
 #[derive(Clone, Copy, Debug, PartialEq, Eq)]
 pub enum WindFault {
-    /// It is not gone.
+    /// The service is not gone.
     Running,
     /// There was no memory for the letters that are left.
     OutOfMemory,
 }
 
-/// A service that was not wound up. All that went in comes back, unchanged.
+/// A service that was not wound up. All parts come back, unchanged.
 pub struct NotWound<W: World, G: Gate + Drop, A: Allocator = Global> {
     pub why: WindFault,
     pub house: House<W, MailInbox<A>, G>,
@@ -41,8 +41,8 @@ pub struct NotWound<W: World, G: Gate + Drop, A: Allocator = Global> {
 }
 
 impl<W: World + Drop, G: Gate + Drop, A: Allocator> House<W, MailInbox<A>, G> {
-    /// What is left of a service that is gone: the writer of its station, and the receiver of its mailbox, which took
-    /// the control bytes of its whole history and no others.
+    /// Leaves a service that is gone. Returns the writer of its station, and the receiver of its mailbox, which took
+    /// the control bytes of the whole history and no others.
     pub fn leave(self) -> (Writer, Receiver<u8, A>)
         requires gone { phase_in self ≡ Phase.Gone }
         ensures writer { (station result.0 ≡ self.station) × (published result.0 ≡ self.events) }
@@ -62,11 +62,11 @@ impl<W: World + Drop, G: Gate + Drop, A: Allocator> House<W, MailInbox<A>, G> {
 }
 
 impl<W: World, G: Gate + Drop, A: Allocator + Clone> House<W, MailInbox<A>, G> {
-    /// Ends a service that is gone, and closes its mailbox: its world comes out, the writer of its station, and the
+    /// Ends a service that is gone, and closes its mailbox. Returns its world, the writer of its station, and the
     /// letters that are left, in the order in which they were accepted.
     ///
-    /// `Running` exactly where it is not gone; `OutOfMemory` where there is no memory for as many letters as the
-    /// mailbox has room for. Then house, mailbox and senders come back as they were.
+    /// `Running` is returned exactly if the service is not gone. `OutOfMemory` is returned if there is no memory for as
+    /// many letters as the mailbox has room for. In both cases house, mailbox and senders come back as they were.
     pub fn wind_up<R: Wait>(
         self,
         rt: &R,
@@ -83,10 +83,10 @@ impl<W: World, G: Gate + Drop, A: Allocator + Clone> House<W, MailInbox<A>, G> {
         ensures world { IfOk result (λ wound. W.calls wound.0 ≡ self.calls) }
         ensures writer { IfOk result (λ wound.
             (station wound.1 ≡ self.station) × (published wound.1 ≡ self.events)) }
-        // The control bytes of its whole history are the items of the letters that were taken.
+        // The control bytes of the whole history are the items of the letters that were taken.
         ensures bytes { IfOk result (λ wound.
             bytes_in (published wound.1) ≡ items_of (taken_by (receiver_in self.inbox))) }
-        // What each sender posted is what was taken of it, and then what is left of it.
+        // What each sender posted is what was taken of it, followed by what is left of it.
         ensures rows { IfOk result (λ wound.
             RowsArrive senders.items (taken_by (receiver_in self.inbox)) wound.2) }
         ensures names { IfOk result (λ wound.

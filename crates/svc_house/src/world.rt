@@ -4,9 +4,9 @@ use std::time::Duration;
 use sup_core::Sig;
 use tai_status::Label;
 
-/// What a service's loop reports and polls. Contracts see the calls with their answers, in order (`calls`), and how often
+/// What a service's loop asks and polls. Contracts see the calls with their results, in order (`calls`), and how often
 /// the world was asked to mend (`mends`), if the world keeps them. A world that has no memory for more calls no longer
-/// keeps them. A record that can't be written is owed: the service goes on, and each turn asks the world to mend.
+/// keeps them. A record that can't be written is owed: the service continues, and each turn asks the world to mend.
 pub trait World {
     ghost use Rattle.std.specs.Prelude.{◌≡◌, ◌<◌, ℕ, Option, None, List, [], ◌∷◌, IfSome};
     ghost use Rattle.sup_core.specs.declared.asks.Ask.{Ask};
@@ -17,14 +17,14 @@ pub trait World {
 
     ghost mends: { Self → Option ℕ } = { λ _. None };
 
-    /// Sends a signal to the process of this number, which is at least 1.
+    /// Sends a signal to the process with this number, which is at least 1.
     fn signal(&mut self, sig: Sig, pid: u32)
         requires { 0 < pid }
         ensures calls { ExtendedWhileKept (calls self.old) (calls self.new)
             (Call.Requested (Ask.Signal sig pid) ∷ []) }
         ensures mends { mends self.new ≡ mends self.old };
 
-    /// Starts the service. `poll_start` answers how that ended.
+    /// Starts the service. `poll_start` returns the result.
     fn start(&mut self)
         ensures calls { ExtendedWhileKept (calls self.old) (calls self.new) (Call.Requested Ask.Start ∷ []) }
         ensures mends { mends self.new ≡ mends self.old };
@@ -35,18 +35,18 @@ pub trait World {
             (Call.Requested (Ask.Write bytes.now) ∷ []) }
         ensures mends { mends self.new ≡ mends self.old };
 
-    /// How the start that was asked for ended, once it has.
+    /// Returns the result of the start that was asked for, after it ended.
     fn poll_start(&mut self) -> Option<StartAnswer>
         ensures calls { ExtendedWhileKept (calls self.old) (calls self.new) (start_poll result) }
         ensures process { IfSome result IsAnswer }
         ensures mends { mends self.new ≡ mends self.old };
 
-    /// When the process died, once it has.
+    /// Returns when the process died, after it died.
     fn poll_death(&mut self) -> Option<Label>
         ensures calls { ExtendedWhileKept (calls self.old) (calls self.new) (death_poll result) }
         ensures mends { mends self.new ≡ mends self.old };
 
-    /// The time.
+    /// Reads the clock.
     fn clock(&mut self) -> Label
         ensures calls { ExtendedWhileKept (calls self.old) (calls self.new) (Call.Read result ∷ []) }
         ensures mends { mends self.new ≡ mends self.old };
@@ -56,6 +56,7 @@ pub trait World {
         ensures calls { calls self.new ≡ calls self.old }
         ensures mends { CountsOne (mends self.old) (mends self.new) };
 
-    /// How long the service may rest before its next turn, if that finds nothing. None: until it is notified.
+    /// Returns how long the service may rest before its next turn, if that turn finds nothing. `None`: until it is
+    /// notified.
     fn longest_rest(&self) -> Option<Duration>;
 }

@@ -1,4 +1,4 @@
--- What the whole history says of its letters, one by one.
+-- What the whole history says of each of its letters.
 use Rattle.std.proofs.Common.{◌≡◌, ◌≢◌, ℕ, zero, suc, ◌+◌, ◌≤◌, ◌<◌, eq-eqb, ne_eqb, cond, List, [], ◌∷◌, sym, refl, ap}
 use Rattle.std.proofs.Common.{◌∙◌, subst, Some, arith}
 use Rattle.std.specs.Prelude.{slice_get}
@@ -51,7 +51,7 @@ module _ {T : Type 0} where
       (λ q. let le = from_place k (p + 1) l (first_place k p x l q h).1 j b e is in omega arith)
       (λ ne. from_place k p l (runs_past k p x l ne h) j b e is)
 
-  -- each sender's letters run on, from some place
+  -- each sender's letters have consecutive places, from some place on
   abbrev AllRun : List (Letter T) → Type 0
   AllRun log = (k : ℕ) → (p : ℕ) × RunsFrom k p log
 
@@ -61,7 +61,7 @@ module _ {T : Type 0} where
       (λ e. ((h k).0 + 1, (first_place k (h k).0 x l e (h k).1).1))
       (λ ne. ((h k).0, runs_past k (h k).0 x l ne (h k).1))
 
-  -- so no later letter is the first one again
+  -- therefore no later letter is the first one again
   not_again : (x : Letter T) (l : List (Letter T)) → AllRun (x ∷ l) → (j : ℕ) (b : Letter T) → slice_get l j ≡ Some b
       → b.sender ≡ x.sender → b.place ≢ x.place
   not_again x l h j b e same place =

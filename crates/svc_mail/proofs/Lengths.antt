@@ -1,4 +1,4 @@
--- The rows of all senders fix the length of a history.
+-- The rows of all senders determine the length of a history.
 use Rattle.std.proofs.Common.{◌≡◌, ◌≢◌, ℕ, zero, suc, ◌+◌, ◌≤◌, ◌<◌, eq-eqb, ne_eqb, cond, List, [], ◌∷◌, length, map}
 use Rattle.std.proofs.Common.{sym, refl, ap, ◌∙◌, lt_of_not-le, arith}
 use mathlib.Core.Logic.{dite}

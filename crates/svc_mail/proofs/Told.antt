@@ -1,4 +1,4 @@
--- What a step tells, as the clauses say it.
+-- What a step shows, in the words of the clauses.
 use Rattle.std.specs.Prelude.{All}
 use Rattle.std.proofs.Common.{◌≡◌, ℕ, ◌<◌, List, [], ◌∷◌, ◌++◌, length, map, sym, refl, ap, ◌∙◌, subst, append_assoc}
 use Rattle.std.proofs.Common.{length-append, arith}
@@ -17,16 +17,16 @@ no_items [] e = refl
 no_items (x ∷ xs) e = absurd (omega arith)
 
 module _ {T : Type 0} where
-  -- where the box holds nothing, what was taken is the whole history
+  -- if the box holds nothing, what was taken is the whole history
   pub taken_all : (v : Knows T) → Held 0 (λ items. IsWhole v (v.taken ++ items)) → IsWhole v v.taken
   taken_all v h = subst (λ l. IsWhole v l) (ap (λ l. v.taken ++ l) (no_items h.0 h.1) ∙ append-nil v.taken) h.2
 
-  -- so says the receiver, in the clause's words
+  -- the receiver knows this, in the clause's words
   pub found_empty : (v : Knows T) → Held 0 (λ items. IsWhole v (v.taken ++ items)) → IsHistory v.taken
       × IsAmong v.all v.taken × StartsWith v.taken v.seen × All (StartsWith v.taken) v.heard
   found_empty v h = let a = taken_all v h in (a.0, a.1, a.2, a.4)
 
-  -- where all senders have ended, the length of the history is known
+  -- if all senders have ended, the length of the history is known
   pub settles : (v : Knows T)
       → ((k : ℕ) → k < v.all → (i : ℕ) × (row : List T) × (seen : List (Letter T))
       × (get_elem? v.ended i ≡ some (k, row, seen))) → IsSettled v
@@ -40,7 +40,7 @@ module _ {T : Type 0} where
       let h' : IsWhole (taker v.all v.made t v.ended w.seen v.heard) log = subst (λ u. IsWhole u log) e h in
       (h'.0, h'.1, (s.0 ++ h'.2.0, h'.2.1 ∙ ap (λ l. l ++ h'.2.0) s.1 ∙ append_assoc v.seen s.0 h'.2.0), h'.3, h'.4)
 
-  -- nothing is left once as many letters were taken as were left
+  -- nothing is left after as many letters were taken as were left
   pub drained : (v w : Knows T) (letters : List (Letter T)) (left : ℕ) → IsSettled v
       → w ≡ taker v.all v.made (v.taken ++ letters) v.ended w.seen v.heard → StartsWith w.seen v.seen
       → length letters ≡ left → Held left (λ items. IsWhole v (v.taken ++ items)) → (items : List (Letter T))
@@ -63,7 +63,7 @@ module _ {T : Type 0} where
       subst (λ l. IsWhole v l) (ap (λ l. (v.taken ++ letters) ++ l) (no_items items none_left)
       ∙ append-nil (v.taken ++ letters)) last'
 
-  -- nor where the box was found empty
+  -- nothing is left if the box was found empty
   pub emptied : (v w : Knows T) (letters : List (Letter T))
       → w ≡ taker v.all v.made (v.taken ++ letters) v.ended w.seen v.heard → StartsWith w.seen v.seen
       → Held 0 (λ items. IsWhole w (w.taken ++ items)) → IsWhole v (v.taken ++ letters)
@@ -87,7 +87,7 @@ module _ {T : Type 0} where
       e ∙ (λ i. taker (sym e i).all ((same ∙ sym (ap (λ (u : Knows T). u.all) e)) i) (sym e i).taken (none i)
       (sym e i).seen (sym e i).heard)
 
-  -- where the box was full, so says the sender, in the clause's words
+  -- if the box was full, the sender knows it, in the clause's words
   pub found_full : (v : Knows T) (held room number : ℕ)
       → Held held (λ items. (taken : List (Letter T)) × MayBe v taken (taken ++ items)) → held ≡ room
       → v.number ≡ number

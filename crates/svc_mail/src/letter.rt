@@ -8,7 +8,7 @@ pub struct Letter<T> {
     pub sender: usize,
     /// Its place, from 0, among the letters of that sender.
     pub place: u64,
-    /// What was posted.
+    /// The item.
     pub item: T,
 }
 
@@ -24,6 +24,6 @@ impl<T: Copy> Clone for Letter<T> {
     }
 }
 
-/// The mailbox was full, and this is the item.
+/// The mailbox was full. This is the item that was not posted.
 #[derive(Clone, Copy, PartialEq, Eq, Debug)]
 pub struct Full<T>(pub T);

@@ -21,14 +21,14 @@ impl<T: Copy, A: Allocator> Model for Letters<T, A> {
 impl<T: Copy, A: Allocator> Letters<T, A> {
     ghost use Rattle.std.specs.Prelude.{◌≡◌, length};
 
-    /// Letters in the order of the vector. Takes no memory.
+    /// Returns letters in the order of the vector. Needs no memory.
     pub fn from_vec(items: Vec<Letter<T>, A>) -> Letters<T, A>
         ensures { result ≡ items.items }
     {
         Letters { items }
     }
 
-    /// The letters as a vector, in their order. Takes no memory.
+    /// Returns the letters as a vector, in their order. Needs no memory.
     pub fn into_vec(self) -> Vec<Letter<T>, A>
         ensures { result.items ≡ self }
     {
@@ -36,7 +36,7 @@ impl<T: Copy, A: Allocator> Letters<T, A> {
         items
     }
 
-    /// How many letters these are.
+    /// Returns how many letters there are.
     pub fn len(&self) -> usize
         ensures { result ≡ length self.now }
     {

@@ -1,22 +1,24 @@
 //! A mailbox between threads: several senders post letters into one bounded box, and one receiver takes them.
 //!
-//! There is one history, a list of letters. An accepted post adds its letter to it, once, and its item to the sender's
-//! row; the places of a sender's letters are 0, 1, 2 and on. What the receiver took is a beginning of the history. When
-//! the mailbox is closed, the letters taken followed by the letters left are the whole history, and each sender's
-//! letters in it are its row, in order and each once: `whole::every_letter_arrives` says so of every mailbox.
+//! There is one history, which is a list of letters. An accepted post adds its letter to the history, once, and its
+//! item to the sender's row. The places of a sender's letters are 0, 1, 2 and so on. What the receiver took is a
+//! beginning of the history. When the mailbox is closed, the letters taken, followed by the letters left, are the whole
+//! history. Each sender's letters in it are its row, in order and each once: `whole::every_letter_arrives` states this
+//! for every mailbox.
 //!
-//! `Full` and `None` say that the box was full, or empty, at one moment of the call, as far as this end can know: some
-//! history that fits what it posted or took, what it has seen and what it was told ends there. An end that was told
-//! nothing can know little of the others, so there are notes. `Sender::tell` tells what a sender has seen, its own
-//! letters among it; where the receiver has learnt that, `None` means that all those letters were taken.
-//! `Receiver::tell` tells what was taken; where a sender has learnt that, `Full` means that the box was full behind
-//! those letters. No note tells that another sender has posted nothing since: where a mailbox has several senders, each
-//! may believe that the others filled it.
+//! `Full` and `None` say that the box was full, or empty, at one moment of the call, as far as this end can know. Some
+//! history ends there that fits what the end posted or took, what it has seen, and what notes gave it.
 //!
-//! What no contract here says, and is only tested: that `take` answers a letter that lies there though no note told of
-//! it, and that `post` succeeds where there is room. Nor that a waiting call returns (a post or a take that lasts for
-//! ever meets any clause, the second of an end as well as the first), nor in which order the letters of two senders
-//! stand to one another, beyond that it is the one order of the history.
+//! An end without notes can know little of the others, so there are notes. `Sender::tell` makes a note of what a sender
+//! has seen, including its own letters. If the receiver has learnt that note, `None` means that all those letters were
+//! taken. `Receiver::tell` makes a note of what was taken. If a sender has learnt that note, `Full` means that the box
+//! was full after those letters. No note says that another sender has posted nothing since. In a mailbox with several
+//! senders, each may therefore believe that the others filled it.
+//!
+//! Some facts are in no contract, and only tested. `take` returns a letter that is in the box even if no note mentioned
+//! it. `post` succeeds if there is room. A waiting call returns: a post or a take that never returns meets every
+//! clause, the second one of an end as well as the first. Nothing is said of the order of two senders' letters, except
+//! that it is the one order of the history.
 //!
 //! An item is plain data (`Copy`). Each end owns a share of the box, so the ends can be moved into other threads. What
 //! is known of an end that comes back from a thread is what the thread promised: `promise` has the promises.

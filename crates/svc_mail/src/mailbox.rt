@@ -7,8 +7,8 @@ use crate::sender::Sender;
 use std::alloc::{AllocError, Allocator, Global};
 use std::sync::{Arc, Wait};
 
-/// A mailbox as a whole, which closes it. Contracts see which one it is (`box_of`), its room in letters (`capacity_of`)
-/// and how many senders it was opened with (`senders_in`).
+/// A mailbox as a whole, which closes it. Contracts see which mailbox it is (`box_of`), its room in letters
+/// (`capacity_of`), and how many senders it was opened with (`senders_in`).
 #[derive(Drop)]
 pub struct Mailbox<T: Copy, A: Allocator = Global> {
     alloc: A,
@@ -16,13 +16,13 @@ pub struct Mailbox<T: Copy, A: Allocator = Global> {
     senders: usize,
 }
 
-/// There was no memory for the letters that were left. The mailbox and its ends come back unchanged, and so do the
-/// letters in it: it can be used and closed as before.
+/// There was no memory for the letters that were left. The mailbox, its ends and the letters in it come back unchanged:
+/// it can be used and closed as before.
 #[derive(Drop)]
 pub struct CloseRefused<T: Copy, A: Allocator = Global> {
     /// The mailbox that was to be closed.
     pub mailbox: Mailbox<T, A>,
-    /// All its senders, in the order in which they were handed in.
+    /// All its senders, in the order in which they were given.
     pub senders: Vec<Sender<T, A>, A>,
     /// Its receiver.
     pub receiver: Receiver<T, A>,
@@ -36,7 +36,7 @@ ghost use Rattle.svc_mail.specs.Kept.{taker, with_ended, HasNoneEnded, IsTaker, 
 ghost use Rattle.svc_mail.specs.Ends.{IsOpen, AreNewSenders, AreAllSenders, IsItsReceiver, IsWholeHistory};
 ghost use Rattle.svc_mail.specs.Ends.{capacity_of, taken_by, home, record_of};
 
-// The mailbox is to have so many senders.
+// Announces that the mailbox will have this many senders.
 fn announce_senders<T: Copy, A: Allocator>(queue: &Queue<T, A>, mark: &mut Mark<T>, senders: usize)
     requires { IsPassOf queue.now mark.old × (view mark.old ≡ taker 0 0 [] [] [] []) }
     ensures { IsPassOf queue.now mark.new × (view mark.new ≡ taker senders 0 [] [] [] []) }
@@ -46,7 +46,7 @@ fn announce_senders<T: Copy, A: Allocator>(queue: &Queue<T, A>, mark: &mut Mark<
     }
 }
 
-// The queue of a mailbox that is to have so many senders, and the receiver's pass.
+// Returns the queue of a mailbox that will have this many senders, and the receiver's pass.
 fn queue_for<T: Copy, A: Allocator + Clone>(
     alloc: &A,
     capacity: usize,
@@ -125,22 +125,23 @@ fn drain<T: Copy, A: Allocator, R: Wait>(
 }
 
 impl<T: Copy, A: Allocator + Clone> Mailbox<T, A> {
-    /// How many letters it has room for.
+    /// Returns how many letters the mailbox has room for.
     pub fn capacity(&self) -> usize
         ensures { result ≡ capacity_of self.now }
     {
         self.queue.capacity()
     }
 
-    // Room for as many letters as can be left.
+    // Takes memory for as many letters as can be left.
     fn room(&self) -> Result<Vec<Letter<T>, A>, AllocError>
         ensures { IfOk result (λ v. (v.items ≡ []) × (capacity_of self.now ≤ vec_capacity v)) }
     {
         Vec::with_capacity(self.alloc.clone()?, self.queue.capacity())
     }
 
-    /// A mailbox with room for `capacity` letters, its senders, in the order of their numbers 0, 1, 2 and on, and its
-    /// receiver. `Err` only where memory was refused, and then nothing is left of it.
+    /// Opens a mailbox with room for `capacity` letters. Returns it with its senders, in the order of their numbers 0,
+    /// 1, 2 and so on, and its receiver. `Err` is returned only if memory was refused, and then nothing of the mailbox
+    /// is left.
     pub fn open(
         alloc: A,
         capacity: usize,
@@ -160,9 +161,10 @@ impl<T: Copy, A: Allocator + Clone> Mailbox<T, A> {
         Ok((mailbox, ends, Receiver::over(queue, mark)))
     }
 
-    /// The letters that are left, in the order of the history. All senders, in any order, and the receiver go in. Those
-    /// that were taken, followed by these, are the whole history, in which each sender's letters are what it posted.
-    /// Memory for `capacity` letters is taken before anything else; where that is refused all come back unchanged.
+    /// Closes the mailbox, and returns the letters that are left, in the order of the history. It takes all senders, in
+    /// any order, and the receiver. The letters taken, followed by those left, are the whole history. In it each
+    /// sender's letters are what it posted. The call first takes memory for `capacity` letters. If that is refused, all
+    /// come back unchanged.
     pub fn close<R: Wait>(
         self,
         rt: &R,

@@ -1,4 +1,4 @@
-//! What one end of a mailbox tells another.
+//! What one end of a mailbox says to another.
 ghost use Rattle.std.specs.Prelude.{◌≡◌, []};
 ghost use Rattle.crossbeam_queue.specs.Passes.{view};
 ghost use Rattle.svc_mail.specs.Kept.{IsNoted};
@@ -6,9 +6,9 @@ ghost use Rattle.svc_mail.specs.Kept.{IsNoted};
 use crate::rule::{Mark, Queue, Told};
 use std::alloc::Allocator;
 
-/// What an end of a mailbox knew when it told it. It has no bytes, and can be sent to where another end is.
-/// Contracts see its mailbox (`note_home`), the history as far as its teller had seen it (`history_in`), and what was
-/// taken, as far as its teller knew (`taken_in`).
+/// What an end of a mailbox knew when it made the note. It has no bytes, and can be sent to the thread of another end.
+/// Contracts see its mailbox (`note_home`), the history as far as the end had seen it (`history_in`), and what was
+/// taken, as far as the end knew (`taken_in`).
 #[derive(Drop)]
 pub struct Note<T> {
     mark: Mark<T>,
@@ -20,7 +20,7 @@ impl<T> Note<T> {
     ghost use Rattle.std.specs.Prelude.{◌≡◌, []};
     ghost use Rattle.crossbeam_queue.specs.Passes.{view, IsPassOf, IsSamePass};
 
-    // What the end of this pass knows.
+    // Returns a note with what the end of this pass knows.
     pub(crate) fn of<A: Allocator>(queue: &Queue<T, A>, mark: &mut Mark<T>) -> Note<T>
         requires { IsPassOf queue.now mark.old }
         ensures same { IsSamePass mark.old mark.new × (view mark.new ≡ view mark.old) }

@@ -1,4 +1,4 @@
-//! What is known of an end of a mailbox that comes back from a thread, which was started by `thread::spawn_with`.
+//! What is known of an end of a mailbox that comes back from a thread that `thread::spawn_with` started.
 use crate::letter::Letter;
 use crate::receiver::Receiver;
 use crate::sender::Sender;
@@ -6,7 +6,7 @@ use std::alloc::{Allocator, Global};
 use std::snapshot::Snapshot;
 use std::thread::Promise;
 
-/// A sender comes back as the same one, and has posted these items beyond.
+/// The sender comes back as the same one, and has posted these items more.
 #[derive(Drop)]
 pub struct PostsThese<T: Copy, A: Allocator = Global> {
     sender: Snapshot<Sender<T, A>>,
@@ -22,7 +22,7 @@ impl<T: Copy, A: Allocator> Promise<Sender<T, A>> for PostsThese<T, A> {
 impl<T: Copy, A: Allocator> PostsThese<T, A> {
     ghost use Rattle.std.specs.Prelude.{◌≡◌};
 
-    /// The sender as it is before the thread has it, and the items that the thread is to post.
+    /// Notes the sender before the thread has it, and the items that the thread is to post.
     pub fn of(sender: &Sender<T, A>, items: &Vec<T, A>) -> PostsThese<T, A>
         ensures { (result.sender.value ≡ sender.now) × (result.items.value ≡ items.now) }
     {
@@ -33,7 +33,7 @@ impl<T: Copy, A: Allocator> PostsThese<T, A> {
     }
 }
 
-/// A receiver comes back as the same one, beside the letters that it took beyond.
+/// The receiver comes back as the same one, together with the letters that it took in the thread.
 #[derive(Drop)]
 pub struct TakesThese<T: Copy, A: Allocator = Global> {
     receiver: Snapshot<Receiver<T, A>>,
@@ -48,7 +48,7 @@ impl<T: Copy, A: Allocator> Promise<(Receiver<T, A>, Vec<Letter<T>, A>)> for Tak
 impl<T: Copy, A: Allocator> TakesThese<T, A> {
     ghost use Rattle.std.specs.Prelude.{◌≡◌};
 
-    /// The receiver as it is before the thread has it.
+    /// Notes the receiver before the thread has it.
     pub fn of(receiver: &Receiver<T, A>) -> TakesThese<T, A>
         ensures { result.receiver.value ≡ receiver.now }
     {

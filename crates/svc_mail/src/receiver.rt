@@ -10,8 +10,8 @@ use crate::rule::{Gets, HearsPosted, MOST, Mark, Queue};
 use std::alloc::{Allocator, Global};
 use std::sync::{Arc, Wait};
 
-/// The one receiver of a mailbox.
-/// Contracts see its mailbox (`receiver_home`) and the letters that it took, in order (`taken_by`).
+/// The one receiver of a mailbox. Contracts see its mailbox (`receiver_home`) and the letters that it took, in order
+/// (`taken_by`).
 #[derive(Drop)]
 pub struct Receiver<T: Copy, A: Allocator = Global> {
     pub(crate) queue: Arc<Queue<T, A>, A>,
@@ -58,11 +58,13 @@ impl<T: Copy, A: Allocator> Receiver<T, A> {
         mark
     }
 
-    /// The next letter of the mailbox's one history, after those that were taken. `None`, and nothing was taken, only
-    /// if the mailbox was empty at one moment of the call, for all that the receiver knows: all letters that it has
-    /// seen, and all that a sender told it of (`learn`), had been taken. Of letters that no one told it of it may
-    /// believe that they are not posted yet. It takes no memory. It may wait, at any letter. After 2^62 letters it
-    /// waits for ever.
+    /// Takes the next letter of the mailbox's one history, after those that were taken.
+    ///
+    /// `None` is returned, and nothing was taken, only if the mailbox was empty at one moment of the call, as far as
+    /// the receiver knows. All letters that it has seen, or that it learnt of by a sender's note (`learn`), had then
+    /// been taken. Letters that no note mentioned may be not posted yet, as far as it knows.
+    ///
+    /// The call needs no memory. It may wait, at any letter. After 2^62 letters it waits for ever.
     pub fn take<R: Wait>(&mut self, rt: &R) -> Option<Letter<T>>
         ensures same { IsSameReceiver self.old self.new }
         ensures taken { MatchOption result (taken_by self.new ≡ taken_by self.old)
@@ -86,7 +88,7 @@ impl<T: Copy, A: Allocator> Receiver<T, A> {
         }
     }
 
-    /// Tells which letters were taken, and what the receiver has seen of the history.
+    /// Makes a note of the letters that were taken, and of what the receiver has seen of the history.
     pub fn tell(&mut self) -> Note<T>
         ensures same { IsUnchangedReceiver self.old self.new }
         ensures home { note_home result ≡ receiver_home self.old }
@@ -96,7 +98,7 @@ impl<T: Copy, A: Allocator> Receiver<T, A> {
         Note::of(&self.queue, &mut self.mark)
     }
 
-    /// Learns what a sender told: from now on `take` answers `None` only where all letters of that note were taken.
+    /// Learns a sender's note: from now on `take` returns `None` only if all letters of that note were taken.
     pub fn learn(&mut self, note: Note<T>)
         requires { note_home note ≡ receiver_home self.old }
         ensures same { IsSameReceiver self.old self.new }

@@ -1,15 +1,16 @@
-//! The rule that the queue of a mailbox keeps at each step, and what each end of the mailbox knows by it.
+//! The rule that the queue of a mailbox keeps at each step, and what each end of the mailbox therefore knows.
 use crate::letter::Letter;
 use crossbeam_queue::protocol::{Join, Lesson, Outcome, Protocol, Split};
 use crossbeam_queue::{Pass, RuledArrayQueue};
 use std::alloc::Global;
 use std::collections::LinkedList;
 
-// A queue takes no more values than this.
+// The most values that a queue ever takes.
 pub(crate) const MOST: u64 = 1 << 62;
 
-/// What an end of a mailbox knows: a sender its number and its row, the receiver what it took and the senders that have
-/// ended, both the history that they have seen and what they heard by notes. No value of it is made.
+/// What an end of a mailbox knows. A sender knows its number and its row. The receiver knows what it took and the
+/// senders that have ended. Both know the history that they have seen, and what they heard by notes. No value of this
+/// type is made.
 pub struct Knows<T> {
     pub all: u64,
     pub posts: bool,
@@ -23,7 +24,7 @@ pub struct Knows<T> {
     pub heard: LinkedList<LinkedList<Letter<T>>>,
 }
 
-/// What was taken, and then what the queue holds, is the history, in which each sender's letters are its row.
+/// What was taken, followed by what the queue holds, is the history, in which each sender's letters are its row.
 pub struct InOrder;
 
 impl<T> Protocol<Letter<T>, Knows<T>> for InOrder {
@@ -67,7 +68,7 @@ impl<T> Lesson<Letter<T>, Knows<T>> for Gets {
     ghost fact = { λ v items. IsWhole v (v.taken ++ items) };
 }
 
-/// The mailbox is to have a sender more.
+/// The mailbox is to have one more sender.
 pub struct Promised;
 
 impl<T> Split<Knows<T>> for Promised {
@@ -89,7 +90,7 @@ impl<T> Split<Knows<T>> for Made {
     ghost right = { next_sender };
 }
 
-/// A sender has ended, and what it posted and saw is known from then on.
+/// A sender has ended. What it posted and saw is known from then on.
 pub struct Ended;
 
 impl<T> Join<Knows<T>> for Ended {
@@ -101,7 +102,7 @@ impl<T> Join<Knows<T>> for Ended {
     ghost spent = { nobody };
 }
 
-/// An end tells what it knows.
+/// An end makes a note of what it knows.
 pub struct Told;
 
 impl<T> Split<Knows<T>> for Told {

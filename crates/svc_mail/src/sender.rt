@@ -10,9 +10,9 @@ use crate::rule::{HearsTaken, MOST, Made, Mark, Posts, Queue};
 use std::alloc::{AllocError, Allocator, Global};
 use std::sync::{Arc, Wait};
 
-/// A sender of a mailbox. Its number is its own, from 0, and its letters keep their order.
-/// Contracts see its mailbox (`home`), its number (`number_of`) and its row: the items that it posted, in order
-/// (`posted`). A sender that is dropped keeps the mailbox from being closed.
+/// A sender of a mailbox. Its number is its own, from 0, and its letters keep their order. Contracts see its mailbox
+/// (`home`), its number (`number_of`) and its row, which is the items that it posted, in order (`posted`). A sender
+/// that is dropped prevents the mailbox from being closed.
 #[derive(Drop)]
 pub struct Sender<T: Copy, A: Allocator = Global> {
     pub(crate) queue: Arc<Queue<T, A>, A>,
@@ -34,7 +34,7 @@ impl<T: Copy, A: Allocator + Clone> Sender<T, A> {
     ghost use Rattle.svc_mail.specs.Ends.{IsSameSender, IsUnchangedSender, JoinsHistory, WasFull, home, number_of};
     ghost use Rattle.svc_mail.specs.Ends.{posted, seen_by, heard_by, senders_of, note_home, history_in, taken_in};
 
-    // The next sender, whose pass comes of the receiver's.
+    // Makes the next sender, with a pass that is split from the receiver's.
     pub(crate) fn from_pass(
         queue: &Arc<Queue<T, A>, A>,
         mark: &mut Mark<T>,
@@ -75,18 +75,20 @@ impl<T: Copy, A: Allocator + Clone> Sender<T, A> {
         mark
     }
 
-    /// Its number among the senders of its mailbox, from 0.
+    /// Returns its number among the senders of its mailbox, from 0.
     pub fn number(&self) -> usize
         ensures { result ≡ number_of self.now }
     {
         self.number
     }
 
-    /// Posts an item, once, as the next letter of this sender. The item comes back, and nothing was posted, only if the
-    /// mailbox was full at one moment of the call, for all that this sender knows: it knows its own letters and what
-    /// the receiver told it, so a mailbox of one sender was full; of the other senders it knows no more than it has
-    /// seen, and may believe that they filled it. It takes no memory. It may wait, at any letter. After 2^62 letters of
-    /// this sender it waits for ever.
+    /// Posts an item, once, as the next letter of this sender.
+    ///
+    /// The item comes back, and nothing was posted, only if the mailbox was full at one moment of the call, as far as
+    /// this sender knows. It knows its own letters and what the receiver's notes say, so a mailbox with one sender was
+    /// full. It knows of the other senders no more than it has seen, and it may believe that they filled the mailbox.
+    ///
+    /// The call needs no memory. It may wait, at any letter. After 2^62 letters of this sender it waits for ever.
     pub fn post<R: Wait>(&mut self, rt: &R, item: T) -> Result<(), Full<T>>
         ensures same { IsSameSender self.old self.new }
         ensures row { MatchResult result (λ _. posted self.new ≡ posted self.old ++ item ∷ [])
@@ -115,7 +117,7 @@ impl<T: Copy, A: Allocator + Clone> Sender<T, A> {
         }
     }
 
-    /// Tells what this sender has seen of the history: up to its own last letter, at the least.
+    /// Makes a note of what this sender has seen of the history: at least all of it up to its own last letter.
     pub fn tell(&mut self) -> Note<T>
         ensures same { IsUnchangedSender self.old self.new }
         ensures home { note_home result ≡ home self.old }
@@ -124,8 +126,8 @@ impl<T: Copy, A: Allocator + Clone> Sender<T, A> {
         Note::of(&self.queue, &mut self.mark)
     }
 
-    /// Learns what the receiver told: from now on `post` answers `Full` only where the box held as many letters as it
-    /// has room for behind those that were taken by that note.
+    /// Learns the receiver's note: from now on `post` returns `Full` only if the box was full after the letters that
+    /// the note gives as taken.
     pub fn learn(&mut self, note: Note<T>)
         requires { note_home note ≡ home self.old }
         ensures same { IsSameSender self.old self.new }

@@ -1,4 +1,4 @@
--- What an intake read, as its reader goes on.
+-- What an intake read, as its reader continues.
 use Rattle.std.proofs.Common.{◌≡◌, ℕ, List, [], ◌∷◌, ◌++◌, take, Option, Some, None, sym, ap, ◌∙◌, subst}
 use Rattle.std.proofs.lemmas.List.{append-nil}
 use Rattle.std.specs.Io.KnownBytes.{Consumes, Keeps}
@@ -39,7 +39,7 @@ pub reads_not : (opening old new : Device) (xs : List ℕ) → Gives opening old
     → Gives opening new xs
 reads_not opening old new xs read kept = Consumes-Keeps opening.bytes old.bytes new.bytes xs read kept
 
--- a turn is a step that leaves the sender, and one that posts what that step keeps
+-- a turn is a step that does not change the sender, and then a step that posts what the first one keeps
 pub posts_kept : (old mid new : Carrying) (turned : IntakeTurn) (piece : Piece) → mid.sender ≡ old.sender
     → mid.kept ≡ Some piece
     → IsIntakeTurn mid turned new → IsIntakeTurn old turned new

@@ -1,4 +1,4 @@
--- From an intake by a mailbox of one sender to a relay.
+-- From an intake through a mailbox with one sender to a relay.
 use Rattle.std.proofs.Common.{◌≡◌, ℕ, eq-eqb, cond, List, [], ◌∷◌, ◌++◌, map, Option, Some, None, IfSome, refl, ap, ◌∙◌}
 use Rattle.std.proofs.Common.{subst, arith, append_assoc}
 use Rattle.std.specs.Io.KnownBytes.{Consumes}
@@ -13,7 +13,7 @@ use Rattle.svc_relay.specs.Passing.{Passing}
 use Rattle.svc_relay.specs.Whole.{Begins, IsJoined, bytes_between, bytes_put, bytes_read}
 use Rattle.svc_relay.proofs.Joined.{joined-append, bytes_in-append}
 
--- all letters are of the one sender
+-- all letters are from the one sender
 alone : {T : Type 0} (log : List (Letter T)) → IsAmong 1 log → row_of 0 log ≡ map (λ l. l.item) log
 alone [] among = refl
 alone (x ∷ log) among =
@@ -22,7 +22,7 @@ alone (x ∷ log) among =
     ap (λ b. map (λ l. l.item) (cond b (x ∷ of_sender 0 log) (of_sender 0 log))) (eq-eqb x.sender 0 first)
     ∙ ap (λ l. x.item ∷ l) (alone log (among_rest 1 x log among))
 
--- what was posted are the letters taken and those left
+-- what was posted is the letters taken, followed by those left
 pub posted_all : (intake : Carrying) (relay : Passing) (left : List (Letter Piece)) → IsJoined intake relay left
     → joined (posted intake.sender) ≡ bytes_in (taken_by relay.receiver) ++ bytes_in left
 posted_all intake relay left joins =

@@ -1,4 +1,4 @@
--- How what a relay counts goes on.
+-- How the counts of a relay continue.
 use Rattle.std.proofs.Common.{◌≡◌, ℕ, ◌+◌, ◌<◌, ◌≤◌, List, [], ◌∷◌, ◌++◌, length, take, drop, Option, Some, None}
 use Rattle.std.proofs.Common.{IfSome, refl, sym, ap, ◌∙◌, subst, arith, length-append, length-drop, append_assoc}
 use Rattle.std.proofs.lemmas.List.{append-nil, drop-drop, drop-append-le, take-append-le, take-append-drop}
@@ -17,7 +17,7 @@ use Rattle.svc_relay.specs.Gathering.{Gathers}
 use Rattle.svc_relay.specs.Passing.{Passing, IsBroken, IsCounted, IsRelay, IsRelayTurn, PutsAll, PutsMore, passing}
 use Rattle.svc_relay.proofs.Joined.{bytes_in-one}
 
--- what holds of every relay
+-- the facts of every relay
 pub relay_facts : (receiver : Receiver Piece Global) (earlier here : ℕ) (waiting : List ℕ) (put : ℕ)
     (shown : Option (List ℕ)) (failures : ℕ)
     → IsCounted receiver earlier here waiting put shown
@@ -179,7 +179,7 @@ breaks receiver earlier here waiting put shown after failures failed count part 
   failed = rose;
 }
 
--- what an outlet reports, when it took bytes and then more of them
+-- what an outlet shows after it took bytes and then more of them
 pub known_more : (first old new : Option (List ℕ)) (bytes : List ℕ) (at count : ℕ)
     → old ≡ append_known first (take at bytes)
     → new ≡ append_known old (take count (drop at bytes)) → new ≡ append_known first (take (at + count) bytes)
@@ -193,7 +193,7 @@ known_more first old new bytes at count h k =
     twice None xs ys = refl
     twice (Some zs) xs ys = ap (λ l. Some l) (append_assoc zs xs ys)
 
--- a turn is a step that puts nothing, and one that puts what that step keeps
+-- a turn is a step that puts nothing, and then a step that puts what the first one keeps
 more : (old mid new : Passing) (count : ℕ) → mid.here ≡ old.here → mid.shown ≡ old.shown → PutsMore mid count new
     → PutsMore old count new
 more old mid new count here shown h = record {

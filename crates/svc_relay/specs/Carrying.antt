@@ -1,4 +1,4 @@
--- How an intake stands: what it read, what it posted, and what it keeps.
+-- The state of an intake: what it read, what it posted, and what it keeps.
 use Rattle.std.specs.Prelude.{◌≡◌, ℕ, ◌<◌, List, [], ◌∷◌, ◌++◌, length, Option, None, Some, IsSome}
 use Rattle.std.specs.declared.alloc.Global.{Global}
 use Rattle.tai_status.specs.Counted.{Device, Gives, IsRead, Fails}
@@ -10,23 +10,23 @@ use Rattle.svc_relay.specs.declared.turn.IntakeTurn.TheVariants.{Moved, Idle, En
 use Rattle.svc_relay.specs.Pieces.{bytes_of, joined}
 
 pub record Carrying : Type 0 where
-  -- the reader as it was when the intake began, and as it is
+  -- the reader as it was when the intake began, and as it is now
   pub opening : Device
   pub reader : Device
   pub sender : Sender Piece Global
-  -- the piece that was read and is not posted
+  -- the piece that was read and not yet posted
   pub kept : Option Piece
 
--- a piece that may be there, as a list
+-- an optional piece as a list
 abbrev pub as_list : Option Piece → List Piece
 as_list None = []
 as_list (Some piece) = piece ∷ []
 
--- the pieces that were posted, and then the one that is kept
+-- the pieces that were posted, followed by the one that is kept
 abbrev pub pieces_in : Carrying → List Piece
 pieces_in s = posted s.sender ++ as_list s.kept
 
--- What holds of every intake: the bytes that it read are those that it posted, followed by those that it keeps.
+-- The condition on every intake: the bytes that it read are those that it posted, followed by those that it keeps.
 abbrev pub IsIntake : Carrying → Type 0
 IsIntake s = Gives s.opening s.reader (joined (pieces_in s))
 
@@ -39,7 +39,7 @@ pub record DidNotRead (old new : Carrying) : Type 0 where
   pub reader : new.reader ≡ old.reader
   pub pieces : pieces_in new ≡ pieces_in old
 
--- One piece of so many bytes, 1 at least, was posted, and nothing is kept.
+-- One piece with this many bytes, at least one, was posted, and nothing is kept.
 pub record PostsOne (old : Carrying) (count : ℕ) (new : Carrying) : Type 0 where
   pub piece : Piece
   pub row : posted new.sender ≡ posted old.sender ++ piece ∷ []
@@ -53,13 +53,13 @@ pub record IsRefused (old new : Carrying) : Type 0 where
   pub row : posted new.sender ≡ posted old.sender
   pub kept : IsSome new.kept
 
--- The reader is at its end. Nothing was kept, or is.
+-- The reader is at its end. Nothing was kept, and nothing is.
 pub record IsAtEnd (old new : Carrying) : Type 0 where
   pub read : IsRead new.reader
   pub sender : new.sender ≡ old.sender
   pub kept : (old.kept ≡ None) × (new.kept ≡ None)
 
--- The reader failed. Nothing was posted, and nothing was kept, or is.
+-- The reader failed. Nothing was posted, and nothing was or is kept.
 pub record IsUnread (old new : Carrying) : Type 0 where
   pub failed : Fails old.reader new.reader
   pub sender : new.sender ≡ old.sender

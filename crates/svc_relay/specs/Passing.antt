@@ -1,4 +1,4 @@
--- How a relay stands: what it took out of its mailbox, what it put into the lives of a logger, and what it keeps.
+-- The state of a relay: what it took from its mailbox, what it put into the lives of a logger, and what it keeps.
 use Rattle.std.specs.Prelude.{◌≡◌, ℕ, ◌+◌, ◌<◌, ◌≤◌, List, [], ◌++◌, length, take, drop, Option, IfSome}
 use Rattle.std.specs.Io.KnownBytes.{append_known}
 use Rattle.std.specs.declared.alloc.Global.{Global}
@@ -15,17 +15,17 @@ pub record Passing : Type 0 where
   -- the bytes that were put into the earlier lives of the logger, joined, and those put into this one
   pub earlier : List ℕ
   pub here : List ℕ
-  -- the bytes that were taken and are not put
+  -- the bytes that were taken and not yet put
   pub kept : List ℕ
-  -- the bytes that this life's outlet shows, and how often it failed
+  -- the bytes that the outlet of this life shows, and how often it failed
   pub shown : Option (List ℕ)
   pub failures : ℕ
 
--- What holds of every relay.
+-- The conditions on every relay.
 pub record IsRelay (s : Passing) : Type 0 where
   -- The bytes taken are those put into earlier lives, those put into this one, and those kept.
   pub taken : bytes_in (taken_by s.receiver) ≡ (s.earlier ++ s.here) ++ s.kept
-  -- What this life's outlet shows are the bytes put into this life.
+  -- The bytes that the outlet of this life shows are those put into this life.
   pub shown : IfSome s.shown (λ bytes. bytes ≡ s.here)
 
 -- a relay that begins: nothing is put or kept
@@ -44,28 +44,28 @@ next_life s shown failures = record {
   failures = failures;
 }
 
--- So many bytes more were put into this life.
+-- This many more bytes were put into this life.
 pub record PutsMore (old : Passing) (count : ℕ) (new : Passing) : Type 0 where
   pub bytes : List ℕ
   pub many : length bytes ≡ count
   pub here : new.here ≡ old.here ++ bytes
   pub shown : new.shown ≡ append_known old.shown bytes
 
--- So many bytes were put, 1 at least. Nothing is kept, and the outlet did not fail.
+-- This many bytes were put, at least one. Nothing is kept, and the outlet did not fail.
 pub record PutsAll (old : Passing) (count : ℕ) (new : Passing) : Type 0 where
   pub put : PutsMore old count new
   pub some : 0 < count
   pub kept : new.kept ≡ []
   pub works : new.failures ≡ old.failures
 
--- The outlet failed. Bytes that it did not take are kept.
+-- The outlet failed. The bytes that it did not take are kept.
 pub record IsBroken (old new : Passing) : Type 0 where
   pub count : ℕ
   pub put : PutsMore old count new
   pub kept : 0 < length new.kept
   pub failed : Rose old.failures new.failures
 
--- Nothing was kept, and no piece was there. Nothing was taken or put.
+-- Nothing was kept, and there was no piece. Nothing was taken or put.
 pub record HadNone (old new : Passing) : Type 0 where
   pub empty : WasEmpty old.receiver
   pub kept : (old.kept ≡ []) × (new.kept ≡ [])
@@ -79,8 +79,7 @@ IsRelayTurn old (Moved count) new = PutsAll old count new
 IsRelayTurn old Idle new = HadNone old new
 IsRelayTurn old Broken new = IsBroken old new
 
--- a relay, of what it counts: so many bytes were put into earlier lives, so many into this one, and so many of the
--- block that waits
+-- a relay, from what it counts: how many bytes were put into earlier lives, into this life, and of the block that waits
 abbrev pub passing : Receiver Piece Global → ℕ → ℕ → List ℕ → ℕ → Option (List ℕ) → ℕ → Passing
 passing receiver earlier here waiting put shown failures = let taken = bytes_in (taken_by receiver) in record {
   receiver = receiver;
@@ -91,7 +90,7 @@ passing receiver earlier here waiting put shown failures = let taken = bytes_in 
   failures = failures;
 }
 
--- What a relay counts fits what it took.
+-- What a relay counts agrees with what it took.
 pub record IsCounted (receiver : Receiver Piece Global) (earlier here : ℕ) (waiting : List ℕ) (put : ℕ)
     (shown : Option (List ℕ)) : Type 0 where
   pub within : earlier + here ≤ length (bytes_in (taken_by receiver))

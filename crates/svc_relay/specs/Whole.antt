@@ -1,4 +1,4 @@
--- What an intake and a relay come to that are joined by a mailbox.
+-- What an intake and a relay do together when a mailbox joins them.
 use Rattle.std.specs.Prelude.{◌≡◌, ℕ, List, [], ◌∷◌, ◌++◌, IfSome}
 use Rattle.svc_mail.specs.declared.letter.Letter.{Letter}
 use Rattle.svc_mail.specs.Ends.{number_of, senders_at, taken_by, IsWholeHistory}
@@ -15,7 +15,8 @@ bytes_read intake = joined (pieces_in intake)
 abbrev pub bytes_put : Passing → List ℕ
 bytes_put relay = relay.earlier ++ relay.here
 
--- the bytes still between the two: those that the relay keeps, those left in the mailbox, those that the intake keeps
+-- the bytes still between the two: those that the relay keeps, those left in the mailbox, and those that the intake
+-- keeps
 abbrev pub bytes_between : Carrying → Passing → List (Letter Piece) → List ℕ
 bytes_between intake relay left = relay.kept ++ bytes_in left ++ joined (as_list intake.kept)
 
@@ -23,8 +24,8 @@ bytes_between intake relay left = relay.kept ++ bytes_in left ++ joined (as_list
 abbrev pub Begins : List ℕ → List ℕ → Type 0
 Begins front all = (rest : List ℕ) × (all ≡ front ++ rest)
 
--- The intake posts and the relay takes by one mailbox, which has no other sender. It was closed, with these letters
--- left.
+-- The intake posts and the relay takes through one mailbox, which has no other sender. It was closed, with these
+-- letters left.
 pub record IsJoined (intake : Carrying) (relay : Passing) (left : List (Letter Piece)) : Type 0 where
   pub posts : IsIntake intake
   pub takes : IsRelay relay
@@ -32,13 +33,13 @@ pub record IsJoined (intake : Carrying) (relay : Passing) (left : List (Letter P
   pub alone : senders_at relay.receiver ≡ 1
   pub closed : IsWholeHistory (intake.sender ∷ []) relay.receiver (taken_by relay.receiver ++ left)
 
--- whatever the intake, the relay and the letters left in the closed mailbox between them
+-- for each intake, each relay, and the letters left in the closed mailbox between them
 abbrev pub OfEachJoined : (Carrying → Passing → List (Letter Piece) → Type 0) → Type 0
 OfEachJoined P =
     (intake : Carrying) (relay : Passing) (left : List (Letter Piece)) → IsJoined intake relay left
     → P intake relay left
 
--- what was read is what was put into all lives, and then what is between
+-- what was read is what was put into all lives, followed by what is between
 abbrev pub IsPutOrBetween : Carrying → Passing → List (Letter Piece) → Type 0
 IsPutOrBetween intake relay left = bytes_read intake ≡ bytes_put relay ++ bytes_between intake relay left
 
@@ -46,6 +47,6 @@ IsPutOrBetween intake relay left = bytes_read intake ≡ bytes_put relay ++ byte
 abbrev pub LivesBeginRead : Carrying → Passing → List (Letter Piece) → Type 0
 LivesBeginRead intake relay left = Begins (bytes_put relay) (bytes_read intake)
 
--- and all that the reader had to give, where that is known
+-- what was put into all lives also begins all that the reader had to give, if that is known
 abbrev pub LivesBeginAll : Carrying → Passing → List (Letter Piece) → Type 0
 LivesBeginAll intake relay left = IfSome intake.opening.bytes (λ all. Begins (bytes_put relay) all)

@@ -9,8 +9,8 @@ use svc_mail::letter::Full;
 use svc_mail::sender::Sender;
 use tai_status::Input;
 
-/// Reads a service's output and posts it, a piece at a time. Contracts see it as `Carrying`, of which `IsIntake` always
-/// holds: the bytes that it read are those that it posted, followed by those that it keeps.
+/// Reads a service's output and posts it, one piece at a time. Contracts see it as `Carrying`, and `IsIntake` is always
+/// true of it: the bytes that it read are those that it posted, followed by those that it keeps.
 #[derive(Drop)]
 pub struct Intake<D: Read> {
     opening: Snapshot<Input<D>>,
@@ -45,7 +45,7 @@ impl<D: Read + Drop> Intake<D> {
     ghost use Rattle.svc_mail.specs.Ends.{IsSameSender, posted};
     ghost use Rattle.svc_relay.specs.Carrying.{DidNotRead, IsAtEnd, IsIntake, IsIntakeTurn, IsUnread, beginning};
 
-    /// An intake that begins. The sender posted nothing yet. It takes no memory.
+    /// Returns an intake that begins. The sender must have posted nothing yet. Needs no memory.
     pub fn new(reader: Input<D>, sender: Sender<Piece>) -> Intake<D>
         requires { posted sender ≡ [] }
         ensures { result ≡ beginning reader sender }
@@ -58,11 +58,12 @@ impl<D: Read + Drop> Intake<D> {
         }
     }
 
-    /// Posts the piece that is kept, with no read; or else reads once, at most 512 bytes, and posts these as one piece.
-    /// It takes no memory. It may wait: for the reader, and for the mailbox as `Sender::post` may.
+    /// Posts the piece that is kept, without a read. If none is kept, it reads once, at most 512 bytes, and posts them
+    /// as one piece. Needs no memory. It may wait: for the reader, and for the mailbox as `Sender::post` may.
     ///
-    /// `Idle`, and the piece is kept, only where the mailbox refused it. `Ended` only at the reader's end with nothing
-    /// kept; a further turn reads again. The fault `Read` only where the reader failed.
+    /// `Idle`, with the piece kept, is returned only if the mailbox refused it. `Ended` is returned only at the
+    /// reader's end, with nothing kept; a further turn reads again. The fault `Read` is returned only if the reader
+    /// failed.
     pub fn turn<R: Wait>(&mut self, rt: &R) -> Result<IntakeTurn, IntakeFault>
         ensures same { IsSameSender self.old.sender self.new.sender }
         ensures opening { self.new.opening ≡ self.old.opening }
@@ -78,7 +79,7 @@ impl<D: Read + Drop> Intake<D> {
         }
     }
 
-    /// Its sender. A piece that is kept is dropped, and so is the reader.
+    /// Returns the sender. Drops the reader, and a piece that is kept.
     pub fn sender(self) -> Sender<Piece>
         ensures sender { result ≡ self.sender }
         ensures bytes { IsIntake self }
@@ -92,7 +93,7 @@ impl<D: Read + Drop> Intake<D> {
         sender
     }
 
-    // The piece that is kept, or else the next one, which then is kept.
+    // Returns the piece that is kept, or reads the next one and keeps it.
     fn next(&mut self) -> Result<Option<Piece>, IntakeFault>
         ensures sender { self.new.sender ≡ self.old.sender }
         ensures opening { self.new.opening ≡ self.old.opening }

@@ -1,4 +1,4 @@
-//! Where a service's output goes.
+//! The destination of a service's output.
 use std::io::Write;
 use tai_status::Output;
 
@@ -6,9 +6,9 @@ use tai_status::Output;
 #[derive(Clone, Copy, Debug, PartialEq, Eq)]
 pub struct OutletFault;
 
-/// The input of one life of a logger. Contracts see how often it failed (`failures`, which may stand at its end)
-/// and, where it says them, the bytes that were put into it, in order (`bytes`). That none of a piece's bytes was
-/// taken is a failure.
+/// The input of one life of a logger. Contracts see how often it failed (`failures`, which may be at its maximum) and,
+/// if it shows them, the bytes that were put into it, in order (`bytes`). It is a failure if it takes no byte of a
+/// piece.
 pub trait Outlet {
     ghost use Rattle.std.specs.Prelude.{◌≡◌, ◌≤◌, ◌<◌, ℕ, Option, None, List, length, take, IfOk, OnOk, OnErr};
     ghost use Rattle.std.specs.Io.KnownBytes.{append_known};
@@ -18,7 +18,7 @@ pub trait Outlet {
 
     ghost bytes: { Self → Option (List ℕ) } = { λ _. None };
 
-    /// Puts a front of the piece, and answers how many bytes it has. At `Err` nothing was put.
+    /// Puts a prefix of the piece, and returns its length. At `Err` nothing was put.
     fn put(&mut self, piece: &[u8]) -> Result<usize, OutletFault>
         ensures within { IfOk result (λ count. count ≤ length piece.now) }
         ensures some { IfOk result (λ count. 0 < length piece.now → 0 < count) }
@@ -28,7 +28,7 @@ pub trait Outlet {
         ensures failed { OnErr result (Rose (failures self.old) (failures self.new)) };
 }
 
-/// A counted writer is an outlet. It says nothing of its bytes, since a writer over the machine knows of none.
+/// A counted writer is an outlet. It does not show its bytes, since a writer over the system knows none.
 impl<D: Write> Outlet for Output<D> {
     ghost failures = { λ output. output.faults };
 

@@ -1,4 +1,4 @@
-//! What a service wrote, a piece at a time.
+//! What a service wrote, one piece at a time.
 ghost use Rattle.std.specs.Prelude.{◌<◌, ◌≤◌};
 
 /// The most bytes of a piece.
@@ -17,7 +17,7 @@ impl Piece {
     ghost use Rattle.std.specs.Prelude.{◌≡◌, ◌<◌, ◌≤◌, length, take};
     ghost use Rattle.svc_relay.specs.Pieces.{bytes_of};
 
-    /// The first `len` bytes of a buffer, of which there are 1 to 512.
+    /// Returns the first `len` bytes of a buffer, 1 to 512, as a piece.
     pub fn front(buffer: &[u8; MOST], len: usize) -> Piece
         requires { (0 < len) × (len ≤ 512) }
         ensures { bytes_of result ≡ take len buffer.now }
@@ -28,7 +28,7 @@ impl Piece {
         }
     }
 
-    /// Its bytes.
+    /// Returns the bytes.
     pub fn as_slice(&self) -> &[u8]
         ensures bytes { result.now ≡ bytes_of self.now }
         ensures some { (0 < length result.now) × (length result.now ≤ 512) }
@@ -36,7 +36,7 @@ impl Piece {
         &self.bytes[..self.len]
     }
 
-    /// How many bytes it has.
+    /// Returns how many bytes the piece has.
     pub fn len(&self) -> usize
         ensures bytes { result ≡ length (bytes_of self.now) }
         ensures some { (0 < result) × (result ≤ 512) }

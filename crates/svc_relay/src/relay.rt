@@ -13,14 +13,14 @@ use std::sync::Wait;
 use svc_mail::receiver::Receiver;
 use tai_status::Block;
 
-/// Puts the pieces of a service's output into the input of its logger, and into that of the next one where it dies.
-/// Contracts see it as `Passing`, of which `IsRelay` always holds: the bytes that it took are those that it put into
-/// all lives of the logger, followed by those that it keeps.
+/// Puts the pieces of a service's output into the input of its logger, and into the input of the next logger if that
+/// one dies. Contracts see it as `Passing`, and `IsRelay` is always true of it: the bytes that it took are those that
+/// it put into all lives of the logger, followed by those that it keeps.
 #[derive(Drop)]
 pub struct Relay<O: Outlet> {
     receiver: Receiver<Piece>,
     outlet: O,
-    // What was taken in one go, and how many bytes of it were put.
+    // What was taken at once, and how many bytes of it were put.
     waiting: Block,
     put: usize,
     // How many bytes were put into earlier lives, and into this one.
@@ -38,7 +38,7 @@ impl<O: Outlet> Model for Relay<O> {
     ghost invariant = { λ r. IsCounted r.receiver r.earlier r.here r.waiting r.put (O.bytes r.outlet) };
 }
 
-// Takes what letters there are, as far as there is room for a whole piece.
+// Takes the letters that are there, as long as there is room for a whole piece.
 fn gather<R: Wait>(rt: &R, receiver: &mut Receiver<Piece>, waiting: &mut Block)
     ensures same { IsSameReceiver receiver.old receiver.new }
     ensures bytes { Gathers receiver.old receiver.new waiting.old waiting.new }
@@ -51,7 +51,7 @@ fn gather<R: Wait>(rt: &R, receiver: &mut Receiver<Piece>, waiting: &mut Block)
     }
 }
 
-// Takes what letters there are, and says whether there were any.
+// Takes the letters that are there. Returns whether there were any.
 fn fill<R: Wait>(rt: &R, receiver: &mut Receiver<Piece>, waiting: &mut Block) -> bool
     requires { waiting.old ≡ [] }
     ensures same { IsSameReceiver receiver.old receiver.new }
@@ -70,7 +70,7 @@ fn fill<R: Wait>(rt: &R, receiver: &mut Receiver<Piece>, waiting: &mut Block) ->
     }
 }
 
-// Puts bytes, until all are put or the outlet fails, and answers how many were put, and whether it failed.
+// Puts bytes, until all are put or the outlet fails. Returns how many were put, and whether the outlet failed.
 fn put_all<O: Outlet>(outlet: &mut O, bytes: &[u8]) -> (usize, bool)
     ensures within { result.0 ≤ length bytes.now }
     ensures front { O.bytes outlet.new ≡ append_known (O.bytes outlet.old) (take result.0 bytes.now) }
@@ -94,7 +94,8 @@ impl<O: Outlet> Relay<O> {
     ghost use Rattle.svc_mail.specs.Ends.{taken_by, IsSameReceiver};
     ghost use Rattle.svc_relay.specs.Passing.{HadNone, IsRelay, IsRelayTurn, beginning, next_life};
 
-    /// A relay that begins. The receiver took nothing yet, and nothing was put into the outlet. It takes no memory.
+    /// Returns a relay that begins. The receiver must have taken nothing yet, and nothing may have been put into the
+    /// outlet. Needs no memory.
     pub fn new(receiver: Receiver<Piece>, outlet: O) -> Relay<O>
         requires taken { taken_by receiver ≡ [] }
         requires put { IfSome (O.bytes outlet) (λ bytes. bytes ≡ []) }
@@ -110,11 +111,11 @@ impl<O: Outlet> Relay<O> {
         }
     }
 
-    /// Puts the bytes that are kept, and takes nothing; or else takes what pieces there are, up to 32,768 bytes, and
-    /// puts these. It takes no memory. It may wait: as `Receiver::take` may, and for the outlet.
+    /// Puts the bytes that are kept, and takes nothing. If none are kept, it takes the pieces that are there, up to
+    /// 32,768 bytes, and puts them. Needs no memory. It may wait: as `Receiver::take` may, and for the outlet.
     ///
-    /// `Idle` only where nothing was kept and no piece was there. `Broken`, and the bytes not put are kept, only where
-    /// the outlet failed; a further turn tries the same outlet again.
+    /// `Idle` is returned only if nothing was kept and there was no piece. `Broken`, with the bytes that were not put
+    /// kept, is returned only if the outlet failed; a further turn tries the same outlet again.
     pub fn turn<R: Wait>(&mut self, rt: &R) -> RelayTurn
         ensures same { IsSameReceiver self.old.receiver self.new.receiver }
         ensures earlier { self.new.earlier ≡ self.old.earlier }
@@ -129,8 +130,8 @@ impl<O: Outlet> Relay<O> {
         }
     }
 
-    /// Begins the logger's next life with an outlet into which nothing was put, and hands the old one back. The bytes
-    /// that are kept go on where the old life ended.
+    /// Begins the logger's next life with an outlet into which nothing was put, and returns the old one. The bytes that
+    /// are kept continue from the end of the old life.
     pub fn replace(&mut self, outlet: O) -> O
         requires { IfSome (O.bytes outlet) (λ bytes. bytes ≡ []) }
         ensures next { self.new ≡ next_life self.old (O.bytes outlet) (O.failures outlet) }
@@ -142,7 +143,7 @@ impl<O: Outlet> Relay<O> {
         std::mem::replace(&mut self.outlet, outlet)
     }
 
-    /// How many bytes were put into the earlier lives of the logger.
+    /// Returns how many bytes were put into the earlier lives of the logger.
     pub fn earlier(&self) -> u128
         ensures count { result ≡ length self.now.earlier }
         ensures bytes { IsRelay self.now }
@@ -150,7 +151,8 @@ impl<O: Outlet> Relay<O> {
         self.earlier
     }
 
-    // There is something to put: what is kept, or else what pieces there are, which then are kept.
+    // Returns whether there is something to put: the bytes that are kept, or the pieces that are there, which it then
+    // keeps.
     fn refill<R: Wait>(&mut self, rt: &R) -> bool
         ensures same { IsSameReceiver self.old.receiver self.new.receiver }
         ensures earlier { self.new.earlier ≡ self.old.earlier }
@@ -168,7 +170,7 @@ impl<O: Outlet> Relay<O> {
         fill(rt, &mut self.receiver, &mut self.waiting)
     }
 
-    // Puts what is kept.
+    // Puts the bytes that are kept.
     fn put(&mut self) -> RelayTurn
         requires { 0 < length self.old.kept }
         ensures earlier { self.new.earlier ≡ self.old.earlier }
@@ -191,7 +193,7 @@ impl<O: Outlet + Drop> Relay<O> {
     ghost use Rattle.std.specs.Prelude.{◌≡◌};
     ghost use Rattle.svc_relay.specs.Passing.{IsRelay};
 
-    /// Its receiver. Bytes that are kept are dropped, and so is the outlet.
+    /// Returns the receiver. Drops the outlet, and bytes that are kept.
     pub fn receiver(self) -> Receiver<Piece>
         ensures receiver { result ≡ self.receiver }
         ensures bytes { IsRelay self }

@@ -3,7 +3,7 @@
 /// What a turn of an intake did.
 #[derive(Clone, Copy, Debug, PartialEq, Eq)]
 pub enum IntakeTurn {
-    /// A piece of so many bytes, 1 to 512, was posted.
+    /// A piece with this many bytes, 1 to 512, was posted.
     Moved(u64),
     /// The mailbox was full. The piece is kept.
     Idle,
@@ -11,7 +11,7 @@ pub enum IntakeTurn {
     Ended,
 }
 
-/// Why an intake did no turn.
+/// Why an intake made no turn.
 #[derive(Clone, Copy, Debug, PartialEq, Eq)]
 pub enum IntakeFault {
     /// The reader failed. Nothing was posted, and no byte of it is lost.
@@ -21,7 +21,7 @@ pub enum IntakeFault {
 /// What a turn of a relay did.
 #[derive(Clone, Copy, Debug, PartialEq, Eq)]
 pub enum RelayTurn {
-    /// So many bytes, 1 at least, were put, and nothing is kept.
+    /// This many bytes, at least one, were put, and nothing is kept.
     Moved(u64),
     /// Nothing was kept, and the mailbox was empty.
     Idle,

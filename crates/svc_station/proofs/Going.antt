@@ -1,4 +1,4 @@
--- A writer whose history goes on.
+-- A writer with a history that continues.
 use Rattle.std.proofs.Common.{◌≡◌, Bool, true, false, List, [], ◌∷◌, ◌++◌, refl, sym, ◌∙◌, if◌then◌else◌}
 use mathlib.Core.List.{IsPrefix}
 use Rattle.std.proofs.lemmas.List.{append-nil}
@@ -21,7 +21,7 @@ prefix_if : (b : Bool) (log new : List Event) (event : Event) → new ≡ (if b 
 prefix_if true log new event is = (event ∷ [], sym is)
 prefix_if false log new event is = ([], append-nil log ∙ sym is)
 
--- whatever was published
+-- the same after any publication
 pub GoesOn-published : (old new : Writer) (event : Event) → station new ≡ station old
     → published new ≡ with_if_taken old event → GoesOn old new
 GoesOn-published old new event same is =

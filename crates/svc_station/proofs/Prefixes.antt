@@ -13,7 +13,7 @@ prefix_self (x ∷ xs) = (let r = prefix_self xs in r.0, ap (λ ys. x ∷ ys) (p
 pub prefix_trans : {A : Type 0} (xs ys zs : List A) → IsPrefix xs ys → IsPrefix ys zs → IsPrefix xs zs
 prefix_trans xs ys zs p q = (p.0 ++ q.0, sym (append_assoc xs p.0 q.0) ∙ (ap (λ w. w ++ q.0) p.1 ∙ q.1))
 
--- of two beginnings of one list the shorter begins the longer
+-- the shorter of two beginnings of one list begins the longer
 pub prefix_shorter : {A : Type 0} (xs ys zs : List A) → IsPrefix xs zs → IsPrefix ys zs → length xs ≤ length ys
     → IsPrefix xs ys
 prefix_shorter [] ys zs p q le = (ys, refl)
@@ -24,7 +24,7 @@ prefix_shorter (x ∷ xs) (y ∷ ys) (z ∷ zs) p q le =
     let rest = prefix_shorter xs ys zs (p.0, cc (p.1)) (q.0, cc (q.1)) (omega arith) in
     (rest.0, cc (heads, rest.1))
 
--- a beginning as long as the whole is the whole
+-- a beginning that is as long as the whole is the whole
 pub prefix_whole : {A : Type 0} (xs ys : List A) → IsPrefix xs ys → length ys ≤ length xs → xs ≡ ys
 prefix_whole [] [] p le = refl
 prefix_whole [] (y ∷ ys) p le = absurd (omega arith)
@@ -32,7 +32,7 @@ prefix_whole (x ∷ xs) [] p le = absurd (cc (p.1))
 prefix_whole (x ∷ xs) (y ∷ ys) p le =
     let rest = prefix_whole xs ys (p.0, cc (p.1)) (omega arith) in cc (p.1, rest)
 
--- What begins a list of which no more than this prefix is there begins this prefix.
+-- If two lists begin a third, and one has all that is there, the other begins that.
 pub begins_all : {A : Type 0} (mine other both all : List A) (key : ℕ) → IsPrefix mine both → IsPrefix other both
     → IsPrefix both all
     → length all + 2 ≤ key → key ≡ length mine + 2 → IsPrefix other mine
@@ -41,13 +41,13 @@ begins_all mine other both all key own theirs goes_on few is =
     (sym (prefix_whole mine all (prefix_trans mine both all own goes_on) (omega (arith, few, is))))
     (prefix_trans other both all theirs goes_on)
 
--- what begins a list is not longer than that
+-- what begins a list is not longer than the list
 pub le_of_prefix : {A : Type 0} (xs ys : List A) → IsPrefix xs ys → length xs ≤ length ys
 le_of_prefix [] ys p = omega arith
 le_of_prefix (x ∷ xs) [] p = absurd (cc (p.1))
 le_of_prefix (x ∷ xs) (y ∷ ys) p = let rest = le_of_prefix xs ys (p.0, cc (p.1)) in omega arith
 
--- One beginning of a list begins another exactly where it is not longer.
+-- One beginning of a list begins another exactly if it is not longer.
 pub begins_by_length : {A : Type 0} (mine theirs whole : List A) (a b : ℕ) (answer : Bool) → a ≡ length mine
     → b ≡ length theirs → nat_le a b ≡ answer
     → IsPrefix mine whole → IsPrefix theirs whole → (answer ≡ true) ↔ IsPrefix mine theirs
@@ -62,7 +62,7 @@ begins_by_length mine theirs whole a b answer other is long own learnt = (
       sym long ∙ le,
 )
 
--- and where it doesn't the other begins it
+-- if it is longer, the other begins it
 pub else_by_length : {A : Type 0} (mine theirs whole : List A) (a b : ℕ) (answer : Bool) → a ≡ length mine
     → b ≡ length theirs → nat_le a b ≡ answer
     → IsPrefix mine whole → IsPrefix theirs whole → answer ≡ false → IsPrefix theirs mine

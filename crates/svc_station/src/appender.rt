@@ -1,4 +1,4 @@
-//! The one end that adds to a station's history.
+//! The one end that adds events to a station's history.
 ghost use Rattle.std.specs.Prelude.{◌≡◌, ◌+◌, ◌-◌, ◌*◌, ◌<◌, ◌≤◌, ◌^◌, length, IfSome};
 ghost use Rattle.logbook.specs.Pages.{may_write};
 ghost use Rattle.svc_station.specs.Book.{head_of};
@@ -7,7 +7,7 @@ use crate::prefix::{Head, Law, Nothing, Prefix, Token};
 use logbook::{Offer, Pen, Plain, Play, Seen, Start, Word};
 use sup_core::Event;
 
-/// The history has at most so many events.
+/// The most events of a history.
 const MOST: u64 = 1 << 62;
 
 /// A step that adds a cell.
@@ -37,7 +37,7 @@ impl Play<Event, u64> for Add {
     ghost then = { Adds };
 }
 
-/// What the step asks for: the event.
+/// The step asks for the event.
 impl Plain<Event, Event, u64> for Add {
     ghost use Rattle.std.specs.Prelude.{None};
 
@@ -55,7 +55,7 @@ impl Play<Event, u64> for Look {
     ghost then = { Looks };
 }
 
-// The pen of a new cell, whose word is made. None where the book's events and cells are not so many.
+// Returns the pen of a new cell with its word made, or `None` if the book has a different number of events and cells.
 fn next_pen(head: &Head, seen: &Token, sum: u64) -> Option<Pen>
     requires head { head.now ≡ head_of seen.now.book }
     requires sum { sum ≤ 2 * length seen.now.log + 3 }
@@ -81,7 +81,7 @@ fn next_pen(head: &Head, seen: &Token, sum: u64) -> Option<Pen>
     Some(pen)
 }
 
-/// Adds events to a history, and is the only one that does: it has the pen of the next cell.
+/// Adds events to a history, and alone does so: it has the pen of the next cell.
 #[derive(Drop)]
 pub struct Appender {
     head: Head,
@@ -97,11 +97,12 @@ impl Appender {
     ghost use Rattle.std.specs.Prelude.{◌≡◌, ◌++◌, ◌∷◌, [], IfSome, MatchBool};
     ghost use mathlib.Core.List.{IsPrefix};
 
-    /// The appender of an empty history. None where another had a cell added since it was opened, which no run meets.
+    /// Returns the appender of an empty history. It would return `None` if another had added a cell since the book was
+    /// opened, which no run meets.
     pub(crate) fn open() -> Option<Appender>
         ensures { IfSome result (λ appender. appender.prefix.seen.log ≡ []) }
     {
-        // No event, and the two cells of a new book.
+        // The book begins with no event and two cells.
         let (seen, mut first, _second) = Seen::open(Start::alone(), 2, 0);
         let head = Word::tracked(2, &mut first);
         let pen = next_pen(&head, &seen, 2)?;
@@ -112,7 +113,7 @@ impl Appender {
         })
     }
 
-    /// Adds an event, and tells whether it did. It does not where the history is as long as it may be.
+    /// Adds an event, and returns whether it did. It does not if the history has as many events as it may have.
     pub(crate) fn add(self, event: Event) -> (Appender, bool)
         ensures book { result.0.prefix.seen.book ≡ self.prefix.seen.book }
         ensures log { MatchBool result.1 (result.0.prefix.seen.log ≡ self.prefix.seen.log ++ event ∷ [])
@@ -126,7 +127,8 @@ impl Appender {
         if prefix.count >= MOST {
             return (Appender { head, pen, prefix }, false);
         }
-        // So many events, and so many cells and three: the two of a new book, and the one that this pen is of.
+        // The sum of the events, and of the cells, which are three more: the two of a new book, and the one of this
+        // pen.
         let sum = 2 * prefix.count + 3;
         let Some(next) = next_pen(&head, &prefix.seen, sum) else {
             return (Appender { head, pen, prefix }, false);

@@ -1,19 +1,21 @@
-//! A station: one writer publishes what happens to a service, and readers in other threads see its machine and trace
+//! A station: one writer publishes what happens to a service. Readers in other threads see its machine and trace
 //! without a lock, and without waiting.
 //!
-//! There is one history: the machine that the station was opened with, and a list of events after it, each of which was
-//! taken where it stands. `Writer::publish` adds an event to it. A reader answers what the events that it knows of make
-//! of that machine: a beginning of the history, which begins with all that it read before or learnt. `Writer::tell`
-//! tells the whole history, and a reader that learnt the note knows at least that: `audit::last_machine` rests on it. A
-//! reader is never ahead of its writer, whoever told whom: what it read begins what the writer added, which is what it
-//! published where no publication was refused (`audit::was_published`).
+//! There is one history: the machine that the station was opened with, and a list of events after it. The machine took
+//! each event in its turn. `Writer::publish` adds an event to the history. A reader returns the state after the events
+//! that it knows. They are a beginning of the history, which begins with all that the reader read before or learnt.
 //!
-//! What no contract here says, and is only tested: that a reading finds the newest publication (one that looks nowhere
-//! and answers what the reader knows already meets the clauses), and that memory serves. A call that may wait owes no
-//! return.
+//! `Writer::tell` makes a note of the whole history. A reader that learnt the note knows at least that:
+//! `audit::last_machine` relies on it. A reader is never ahead of its writer, no matter who made the notes that it
+//! learnt: what it read begins what the writer added. That is what the writer published, if no publication was refused
+//! (`audit::was_published`).
 //!
-//! A writer has one end, `Writer::end`, with all readers of its station. So it can't be let go, and a thread takes it
-//! and gives it back as a `parked::Parked`.
+//! Some facts are in no contract, and only tested. A reading finds the newest publication: a reading that looks
+//! nowhere, and returns what the reader knows already, meets the clauses. Calls succeed when there is enough memory. No
+//! contract says that a call that may wait returns.
+//!
+//! A writer ends only by `Writer::end`, together with all readers of its station. It can't be dropped, so a thread
+//! takes it and gives it back as a `parked::Parked`.
 #![tactic(auto)]
 
 mod appender;

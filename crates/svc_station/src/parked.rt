@@ -4,8 +4,7 @@ use std::snapshot::Snapshot;
 use std::sync::Wait;
 use std::thread::Promise;
 
-/// A writer that a thread may take and give back. A writer has no end but `Writer::end`, so a drop of it waits for
-/// ever.
+/// A writer that a thread may take and give back. A writer ends only by `Writer::end`, so dropping this waits for ever.
 pub struct Parked<R: Wait> {
     writer: Writer,
     rt: R,
@@ -23,14 +22,14 @@ impl<R: Wait + Drop> Parked<R> {
     ghost use Rattle.std.specs.Prelude.{◌≡◌};
     ghost use Rattle.svc_station.specs.Parking.{writer_in};
 
-    /// The writer, on its way to a thread.
+    /// Wraps the writer for its way to a thread.
     pub fn new(writer: Writer, rt: R) -> Parked<R>
         ensures { writer_in result ≡ writer }
     {
         Parked { writer, rt }
     }
 
-    /// The writer, as it came.
+    /// Returns the writer, as it came.
     pub fn into_writer(self) -> Writer
         ensures { result ≡ writer_in self }
     {
@@ -39,8 +38,8 @@ impl<R: Wait + Drop> Parked<R> {
     }
 }
 
-/// A writer comes back as the one that went: it is of the same station, and its history goes on from what it had
-/// published. For `thread::spawn_with`.
+/// Promises that a writer comes back as the one that went: it has the same station, and its history continues what it
+/// had published. For `thread::spawn_with`.
 #[derive(Drop)]
 pub struct SameStation<R: Wait> {
     went: Snapshot<Parked<R>>,
@@ -55,7 +54,7 @@ impl<R: Wait> Promise<Parked<R>> for SameStation<R> {
 impl<R: Wait> SameStation<R> {
     ghost use Rattle.std.specs.Prelude.{◌≡◌};
 
-    /// The writer as it is before the thread has it.
+    /// Notes the writer before the thread has it.
     pub fn of(parked: &Parked<R>) -> SameStation<R>
         ensures { result.went.value ≡ parked.now }
     {

@@ -1,4 +1,4 @@
-//! What was seen of a station's history. The history exists in the proofs alone.
+//! What was seen of a station's history. The history exists only in the proofs.
 ghost use Rattle.std.specs.Prelude.{◌≡◌, length};
 
 use logbook::{Gain, Rule, Seen, Word};
@@ -50,7 +50,7 @@ impl Prefix {
     ghost use Rattle.std.specs.Prelude.{◌≡◌, ◌↔◌, true, false};
     ghost use mathlib.Core.List.{IsPrefix};
 
-    /// A copy.
+    /// Returns a copy.
     pub(crate) fn again(&self) -> Prefix
         ensures { result ≡ self.now }
     {
@@ -60,7 +60,7 @@ impl Prefix {
         }
     }
 
-    /// Whether the other goes at least as far: of two beginnings of one history the shorter begins the longer.
+    /// Returns whether this begins the other: the shorter of two beginnings of one history begins the longer.
     pub(crate) fn begins(&self, other: &Prefix) -> bool
         requires { other.now.seen.book ≡ self.now.seen.book }
         ensures begins { (result ≡ true) ↔ IsPrefix self.now.seen.log other.now.seen.log }

@@ -14,12 +14,12 @@ use std::alloc::AllocError;
 use std::sync::Wait;
 use sup_core::{Event, Machine};
 
-/// Nothing is pending. What is shown is the whole history, or it lacks the last event, whose publication was refused.
+/// Nothing is pending. What is shown is the whole history, or all of it but the last event, which was refused.
 pub struct WriterState {
     pub(crate) inner: ShownWriter,
     pub(crate) appender: Appender,
     pub(crate) prefix: Prefix,
-    // The event that was added and found no room to be published.
+    // The event that was added, and that there was no room to publish.
     pub(crate) owed: Option<Event>,
     ghost pending: { drop inner.behind inner.log.items ≡ [] },
     ghost shown: { IsShown inner.desk.shown.value },
@@ -29,8 +29,8 @@ pub struct WriterState {
     ghost knows: { view inner.desk.place ≡ origin_of inner.desk.shown.value },
 }
 
-// Adds an event behind the published ones, unless it is owed: then it was added before. It comes back as it was where
-// another one is owed, or where there is no room.
+// Adds an event after the published ones. If this event is owed, it was added before. The appender comes back as it was
+// if another event is owed, or if there is no room.
 fn add_once(
     appender: Appender,
     owed: Option<Event>,
@@ -50,7 +50,7 @@ fn add_once(
     }
 }
 
-// Shows the one event that is pending, with which the history `next` ends.
+// Shows the one event that is pending. The history `next` ends in it.
 fn show<R: Wait>(rt: &R, inner: ShownWriter, appender: Appender, next: Prefix) -> WriterState
     requires shown { IsShown inner.desk.shown.value }
     requires knows { view inner.desk.place ≡ origin_of inner.desk.shown.value }
@@ -82,8 +82,8 @@ impl WriterState {
     ghost use Rattle.svc_station.specs.Origins.{origin_in};
     ghost use mathlib.Core.List.{IsPrefix};
 
-    // Nothing is pending, and the trace is a new one. A first operation without an event makes room for all later ones,
-    // so that no later append grows.
+    // Makes room for all later operations by a first one without an event, so no later append grows. Nothing is
+    // pending, and the trace is new.
     pub(crate) fn with_room<R: Wait>(
         rt: &R,
         inner: ShownWriter,
@@ -120,7 +120,7 @@ impl WriterState {
         }
     }
 
-    // Reader `number`, which knows the history so far.
+    // Makes the reader with this number, which knows the history so far.
     pub(crate) fn reader(&mut self, number: usize) -> Result<Reader, AllocError>
         ensures same { IsSameState self.old self.new }
         ensures appender { self.new.appender ≡ self.old.appender }
@@ -149,8 +149,9 @@ impl WriterState {
         self.inner.published().trace.state()
     }
 
-    // Publishes an event that the machine takes. `AllocError` where the operation finds no room, and where another
-    // event is owed: then what is published is as before. The same event is published by the next call that finds room.
+    // Publishes an event that the machine takes. `AllocError` is returned if there is no room for the operation, or if
+    // another event is owed: what is published is then as before. The next call for the same event that finds room
+    // publishes it.
     pub(crate) fn publish<R: Wait>(
         self,
         rt: &R,
@@ -202,14 +203,14 @@ impl WriterState {
         }
     }
 
-    // Whether all events that were added are shown.
+    // Returns whether all events that were added are shown.
     pub(crate) fn is_whole(&self) -> bool
         ensures { (result ≡ true) ↔ (added_on self.now ≡ self.now.prefix.seen.log) }
     {
         self.owed.is_none()
     }
 
-    // The other is a beginning of all events that were added.
+    // Looks into the book: the other is a beginning of all events that were added.
     pub(crate) fn look(self, other: &Prefix) -> WriterState
         requires { other.now.seen.book ≡ self.prefix.seen.book }
         ensures same { IsSameState self result }

@@ -1,4 +1,4 @@
--- What the front of a status file says.
+-- What the first bytes of a status file say.
 use Rattle.std.proofs.Common.{◌≡◌, ◌≤◌, ◌<◌, ℕ, List, length, take, Err, sym, ap, ◌∙◌, ⊎_elim, arith}
 use Rattle.std.proofs.lemmas.Bool.{cases_lt}
 use Rattle.std.proofs.lemmas.Grind.{common_steps}
@@ -7,12 +7,12 @@ use Rattle.tai_status.specs.Decoding.{status_from}
 use Rattle.tai_status.specs.Loading.{loaded_from}
 use Rattle.tai_status.specs.declared.record.RecordFault.TheVariants.{Length}
 
--- Bytes that are more than the longer record's are no record.
+-- More bytes than the longer record has are no record.
 too_long : (bytes : List ℕ) → 20 < length bytes → loaded_from bytes ≡ Err Length
 unfolding loaded_from status_from
 too_long bytes more = grind (arith, common_steps)
 
--- A front that may have more bytes than the longer record says what the whole file says.
+-- A prefix that may have more bytes than the longer record says what the whole file says.
 pub front_gives : (n : ℕ) (file : List ℕ) → 20 < n → loaded_from (take n file) ≡ loaded_from file
 front_gives n file more =
     let cut : n < length file → loaded_from (take n file) ≡ loaded_from file =

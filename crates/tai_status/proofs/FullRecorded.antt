@@ -20,7 +20,7 @@ use Rattle.tai_status.proofs.Packed.{IsBytes-take}
 use Rattle.tai_status.proofs.Recorded.{found_recorded, record-status_record, IsRecord-status_record, status_from-record}
 use Rattle.tai_status.proofs.Standing.{stands_in-decides}
 
--- What has this record is read.
+-- Whatever has this record is read.
 
 phase_from-byte : (p : Phase) → phase_from (phase_byte p) ≡ Some p
 phase_from-byte phase.Starting = refl
@@ -56,7 +56,7 @@ pub loaded_from-record : (bytes : List ℕ) (loaded : Loaded) → IsLoaded bytes
 loaded_from-record bytes (Old status) is = loaded_from-old bytes status is.0 is.1
 loaded_from-record bytes (New full) is = loaded_from-full bytes full is.0 is.1
 
--- What is read has this record.
+-- Whatever is read has this record.
 
 -- the parts of a full status that was read
 record HasParts (full : FullStatus) (status : Status) (exiting phase : ℕ) : Type 0 where

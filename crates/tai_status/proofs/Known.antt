@@ -1,4 +1,4 @@
--- What is known of the bytes of a device, over several calls.
+-- What is known of a device's bytes over several calls.
 use Rattle.std.proofs.Common.{◌≡◌, ℕ, ◌+◌, ◌-◌, min, List, [], ◌++◌, length, take, drop, Option, Some, None, refl, sym}
 use Rattle.std.proofs.Common.{subst, ap, ◌∙◌, rules, arith, append_assoc, append-nil}
 use Rattle.std.proofs.Math.Seq.{take-add, take-append-add, take-length}
@@ -8,7 +8,7 @@ use Rattle.std.specs.Prelude.{◌^◌}
 use Rattle.tai_status.specs.Counted.{AppendsFront, Rose}
 use Rattle.tai_status.specs.Block.{Emits}
 
--- a count that goes up by one, and stops at its end
+-- a count that goes up by one, and stops at its maximum
 pub count_rises : (old new : ℕ) → new ≡ min (old + 1) (2 ^ 64 - 1) → Rose old new
 count_rises old new is = search (rules, arith)
 
@@ -108,7 +108,7 @@ pub AppendsFront-first : {a b : Option (List ℕ)} (p xs ys : List ℕ) → Appe
 AppendsFront-first {a} {b} p xs ys f =
     subst (λ (t : List ℕ). AppendsFront a b t) (append_assoc p xs ys) (AppendsFront-more ys f)
 
--- A piece is a front of itself.
+-- A piece is a prefix of itself.
 pub AppendsFront-whole : (a b : Option (List ℕ)) (xs : List ℕ) → Appends a b xs → AppendsFront a b xs
 AppendsFront-whole a b xs k =
     record { count = length xs; front = subst (λ (t : List ℕ). Appends a b t) (sym (take-length xs)) k }

@@ -8,7 +8,7 @@ use Rattle.hex.specs.Hex.{IsBytes}
 use Rattle.tai_status.specs.Label.{Tai64n, IsLabel, packed}
 use Rattle.tai_status.specs.Reading.{from_packed, from_parts}
 
--- two numbers in their ranges are the parts of a label
+-- two numbers within their ranges are the parts of a label
 from_parts-label : (l : Tai64n) → IsLabel l → from_parts l.sec l.nano ≡ Ok l
 from_parts-label l h = grind (arith, h.sec, h.nano)
 
@@ -45,7 +45,7 @@ IsBytes-take (suc n) (b ∷ bytes) h (suc i) = IsBytes-take n bytes (λ k. h (su
 pub IsBytes-drop : (n : ℕ) (bytes : List ℕ) → IsBytes bytes → IsBytes (drop n bytes)
 IsBytes-drop n bytes h i = rw (get_or-drop n bytes i 0) (h (n + i))
 
--- What is read is packed so.
+-- Whatever is read has this packed form.
 pub packed-from_packed : (bytes : List ℕ) (l : Tai64n) → IsBytes bytes → from_packed bytes ≡ Ok l
     → IsLabel l × (bytes ≡ packed l)
 packed-from_packed bytes l fits h =

@@ -1,4 +1,4 @@
--- Parts of lines, as the code meets them.
+-- Parts of lines, in the order in which the code meets them.
 use Rattle.std.proofs.Common.{◌≡◌, ℕ, ◌+◌, ◌-◌, ◌<◌, Bool, true, false, if◌then◌else◌, List, [], ◌∷◌, ◌++◌, length}
 use Rattle.std.proofs.Common.{take, drop, Option, refl, sym, subst, ap, ◌∙◌, append-nil}
 use Rattle.std.specs.Io.BufRead.{take_through}
@@ -53,7 +53,7 @@ part_new_failed {d} {e} {p} xs a b label inside is some line g m =
     let whole = subst (λ (t : List ℕ). StampsUpTo false t a b d e p) (sym line) put in
     subst (λ (v : Bool). StampsUpTo v xs a b d e p) (sym is) whole
 
--- Part after part
+-- One part after another
 
 rest_is : (xs : List ℕ) (at : ℕ) → take (length xs - at) (drop at xs) ≡ drop at xs
 rest_is xs at = take_rest xs at

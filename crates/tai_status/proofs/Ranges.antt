@@ -1,4 +1,4 @@
--- Parts of a buffer, from one place to another.
+-- Ranges of a buffer.
 use Rattle.std.proofs.Common.{◌≡◌, ℕ, suc, ◌+◌, ◌-◌, ◌<◌, ◌≤◌, ◌==◌, Bool, true, false, List, [], ◌∷◌, ◌++◌, length}
 use Rattle.std.proofs.Common.{take, drop, get_or, refl, sym, ap, ◌∙◌, arith, length-drop, drop-cons}
 use Rattle.std.specs.List.{slice_range}
@@ -8,7 +8,7 @@ use Rattle.std.proofs.lemmas.Bool.{eqb-true}
 use Rattle.memchr.specs.Find.{NoneBefore, Nowhere, Passes, is_byte}
 use Rattle.tai_status.specs.LineReader.{IsPlain}
 
--- A part, and the part right after it.
+-- A range, and the range right after it.
 pub ranges_join : (xs : List ℕ) (s m e : ℕ) → s ≤ m → m ≤ e
     → slice_range xs s e ≡ slice_range xs s m ++ slice_range xs m e
 ranges_join xs s m e below above =
@@ -24,7 +24,7 @@ range_by_front xs s e below =
     let place : s + (e - s) ≡ e = omega arith in
     sym (drop-take s (e - s) xs) ∙ ap (λ (n : ℕ). drop s (take n xs)) place
 
--- A part depends on what stands before its end alone.
+-- A range depends only on the bytes before its end.
 pub range-front : (xs ys : List ℕ) (s e : ℕ) → s ≤ e → take e xs ≡ take e ys → slice_range xs s e ≡ slice_range ys s e
 range-front xs ys s e below same = range_by_front xs s e below ∙ ap (drop s) same ∙ sym (range_by_front ys s e below)
 
@@ -55,7 +55,7 @@ plain_where_none (x ∷ xs) none =
 pub none_found : (xs : List ℕ) → Nowhere (Passes (is_byte 10) xs) 0 (length xs) → IsPlain xs
 none_found xs none = plain_where_none xs (λ j h. none j (omega arith) h)
 
--- What a search for the first newline of a part found.
+-- What a search for the first newline of a range found.
 pub line_found : (b : List ℕ) (s e at : ℕ) → s ≤ e → e ≤ length b
     → NoneBefore (Passes (is_byte 10) (slice_range b s e)) 0 (length (slice_range b s e)) at
     → Passes (is_byte 10) (slice_range b s e) at
@@ -79,7 +79,7 @@ line_found b s e at below within first is =
           λ is_ten. first.before j (omega arith) j_at (ap (λ (x : ℕ). x == 10) (sym same) ∙ is_ten)),
     )
 
--- Bytes that were moved to the front, and those that were read behind them.
+-- Bytes that were moved to the front, and those that were read after them.
 pub read_behind : (old moved new : List ℕ) (s e n : ℕ) → take (e - s) moved ≡ slice_range old s e
     → take (e - s) new ≡ take (e - s) moved
     → slice_range new 0 (e - s + n) ≡ slice_range old s e ++ slice_range new (e - s) (e - s + n)

@@ -19,7 +19,7 @@ use Rattle.tai_status.specs.declared.record.Want.{Want}
 use Rattle.tai_status.specs.declared.record.Want.TheVariants.{Up, Down, Once}
 use Rattle.tai_status.proofs.Packed.{from_packed-packed, packed-from_packed, IsBytes-take, IsBytes-drop}
 
--- What has this record is read.
+-- Whatever has this record is read.
 
 want_from-byte : (want : Want) → want_from (want_byte want) ≡ Some want
 want_from-byte Up = refl
@@ -44,7 +44,7 @@ status_from-record bytes status is r =
     ap (from_le_bytes w32) r.pid ∙ from_le_bytes-to_le_bytes_4 status.pid is.pid in
     rw (r.size, label, pid, r.paused, r.want) (fields_are status.label status.pid status.paused status.want is.paused)
 
--- What is read has this record.
+-- Whatever is read has this record.
 
 -- the fields of a status that was read
 record HasFields (status : Status) (label : Tai64n) (pid paused want : ℕ) : Type 0 where

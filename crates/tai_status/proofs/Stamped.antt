@@ -103,7 +103,7 @@ stamped_on-front false (g ∷ gs) (x ∷ xs) ys =
 
 -- Whole lines
 
--- the lines of bytes that go on a line, after their stamps but the first
+-- the lines of bytes that continue a line: each line but the first comes after its stamp
 continued : List Tai64n → List (List ℕ) → List ℕ
 continued gs [] = []
 continued gs (line ∷ lines) = line ++ stamped gs lines
@@ -133,14 +133,14 @@ length-onto : (b : ℕ) (ls : List (List ℕ)) → length (onto_first b ls) ≡ 
 length-onto b [] = refl
 length-onto b (l ∷ ls) = omega arith
 
--- both ways of reading a text at once
+-- both readings of a text at once
 record Reads (text : List ℕ) : Type 0 where
   new : (gs : List Tai64n) → stamped_on false gs text ≡ stamped gs (lines_of text)
   on : (gs : List Tai64n) → stamped_on true gs text ≡ continued gs (lines_of text)
   count_new : begun false text ≡ length (lines_of text)
   count_on : begun true text ≡ length (lines_of text) - 1
 
--- what a byte does, where the rest of its line is reported
+-- one more byte, given both readings of the bytes after it
 on_after : (gs : List Tai64n) (b : ℕ) (bs : List ℕ) (ends : Bool) → (b == 10) ≡ ends → Reads bs
     → b ∷ stamped_on (not (b == 10)) gs bs ≡ continued gs (lines_of (b ∷ bs))
 unfolding continued
@@ -342,7 +342,7 @@ is_inside-none inside x [] none =
     let apart : (x == 10) ≡ false = not_true (x == 10) (none 0 (omega arith)) in rw apart refl
 is_inside-none inside x (y ∷ ys) none = is_inside-none (not (x == 10)) y ys (λ j h. none (suc j) (omega (arith, h)))
 
--- what a search for the first newline reports
+-- what a search for the first newline finds
 pub part_found : (xs : List ℕ) (k : ℕ) → NoneBefore (Passes (is_byte 10) xs) 0 (length xs) k → Passes (is_byte 10) xs k
     → (take (k + 1) xs ≡ take_through 10 xs) × ((inside : Bool) → is_inside inside (take_through 10 xs) ≡ false)
 part_found xs k first is = (

@@ -1,4 +1,4 @@
--- The test whether a service can stand so, and the fact.
+-- The test for a possible state of a service agrees with the fact.
 use Rattle.std.proofs.Common.{◌≡◌, ℕ, ◌<◌, ◌&&◌, ◌==◌, nat_lt, Bool, true, false, refl, arith}
 use Rattle.std.specs.Prelude.{◌≢◌, ◌↔◌, not}
 use Rattle.std.specs.Cmp.Derive.{both_true}
@@ -34,7 +34,7 @@ zero_pid pid = (λ h. grind (arith, h), λ h. eqb-true pid 0 h)
 pub some_pid : (pid : ℕ) → (0 < pid) ↔ (nat_lt 0 pid ≡ true)
 some_pid pid = (λ h. grind (arith, h), λ h. grind (arith, h))
 
--- facts, each decided by a test
+-- facts that are each decided by a test
 
 pub two : {A B : Type 0} (a b : Bool) → A ↔ (a ≡ true) → B ↔ (b ≡ true) → (A × B) ↔ ((a && b) ≡ true)
 two a b p q = (λ h. both_true (p.0 h.0) (q.0 h.1), λ h. let parts = and_parts a b h in (p.1 parts.0, q.1 parts.1))
@@ -54,7 +54,7 @@ four a b c d p q r s = (
       (front.0, front.1, front.2, s.1 parts.1),
 )
 
--- the test decides where a service can stand
+-- the test decides whether a service can be in a state
 pub stands_in-decides : (phase : Phase) (s : Status) (exiting : Bool)
     → StandsIn phase s exiting ↔ (stands_in phase s exiting ≡ true)
 stands_in-decides phase.Starting s exiting = three _ _ _ (zero_pid s.pid) (not_want s.want want.Down) (no exiting)

@@ -19,7 +19,7 @@ texts_of-line (x ∷ xs) rest plain =
     let parts = plain_parts x xs plain in
     texts_of-on x (xs ++ 10 ∷ rest) parts.0 ∙ ap (onto_first x) (texts_of-line xs rest parts.1)
 
--- The last line of a text, where it has no newline.
+-- The last line of a text, if it has no newline.
 pub texts_of-last : (line : List ℕ) → 0 < length line → IsPlain line → texts_of line ≡ line ∷ []
 texts_of-last [] some plain = absurd (omega (arith, some))
 texts_of-last (x ∷ []) some plain = texts_of-on x [] (plain_parts x [] plain).0
@@ -53,7 +53,7 @@ lines_of-line (x ∷ xs) rest plain =
     let parts = plain_parts x xs plain in
     lines_of-on x (xs ++ 10 ∷ rest) parts.0 ∙ ap (onto_first x) (lines_of-line xs rest parts.1)
 
--- The last line of a text, where it has no newline.
+-- The last line of a text, if it has no newline.
 pub lines_of-last : (line : List ℕ) → 0 < length line → IsPlain line → lines_of line ≡ line ∷ []
 lines_of-last [] some plain = absurd (omega (arith, some))
 lines_of-last (x ∷ []) some plain = lines_of-on x [] (plain_parts x [] plain).0

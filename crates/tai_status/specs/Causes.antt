@@ -1,4 +1,4 @@
--- Why the system refused something, and in which words that is reported (errno(3), strerror(3)).
+-- Why the system refused something, and the words that report it (errno(3), strerror(3)).
 use Rattle.std.specs.Prelude.{
   ℕ,
   ℤ,
@@ -21,7 +21,7 @@ use Rattle.std.specs.declared.io.ErrorKind.TheVariants as io
 use Rattle.tai_status.specs.declared.cause.Cause.{Cause}
 use Rattle.tai_status.specs.declared.cause.Cause.TheVariants as cause
 
--- the cause that a kind of fault names
+-- the cause of a kind of fault
 abbrev pub cause_of_kind : ErrorKind → Cause
 cause_of_kind io.NotFound = cause.Missing
 cause_of_kind io.PermissionDenied = cause.Denied
@@ -43,7 +43,7 @@ cause_of_kind io.ExecutableFileBusy = cause.BusyProgram
 cause_of_kind io.InvalidInput = cause.Invalid
 cause_of_kind _ = cause.Other
 
--- Some causes have a number and no kind of their own.
+-- Some causes have an error number, but no kind of their own.
 abbrev pub cause_of_number : (number : ℕ) → ErrorKind → Cause
 cause_of_number number kind =
     if number == 1 then cause.NotPermitted
@@ -55,7 +55,7 @@ cause_of_number number kind =
     else if number == 36 then cause.LongName
     else cause_of_kind kind
 
--- the cause of a fault of this number and kind
+-- the cause of a fault with this number and kind
 abbrev pub cause_of : Option ℤ → ErrorKind → Cause
 cause_of None kind = cause_of_kind kind
 cause_of (Some (pos number)) kind = cause_of_number number kind

@@ -1,4 +1,4 @@
--- What reading a status record answers: the status, or the first fault.
+-- The result of reading a status record: the status, or the first fault.
 use Rattle.std.specs.Prelude.{ℕ, nat_lt, Bool, not, ◌&&◌, ◌==◌, if◌then◌else◌, List, length, slice_index, take, drop}
 use Rattle.std.specs.Prelude.{Option, Some, None, Result, Ok, Err}
 use Rattle.std.specs.Int.{w32, from_le_bytes}
@@ -12,7 +12,7 @@ use Rattle.tai_status.specs.declared.record.RecordFault.{RecordFault}
 use Rattle.tai_status.specs.declared.record.RecordFault.TheVariants.{Length, BadLabel, PausedFlag, PausedNoProcess}
 use Rattle.tai_status.specs.declared.record.RecordFault.TheVariants.{WantByte}
 
--- what this byte wants
+-- the wanted state that this byte means
 abbrev pub want_from : ℕ → Option Want
 want_from byte =
     if byte == 0x75 then Some Up else if byte == 0x64 then Some Down else if byte == 0 then Some Once else None

@@ -1,7 +1,7 @@
--- A list that is known was extended.
+-- A known list was extended.
 use Rattle.std.specs.Prelude.{◌≡◌, ⊤, List, ◌++◌, Option, Some, None}
 
--- The list was extended by these, in order. What is known goes on being known.
+-- The list was extended by these items, in order. If it was known before, it is known afterwards.
 abbrev pub Extended : {A : Type 0} → (past now : Option (List A)) (more : List A) → Type 0
 Extended None now more = ⊤
 Extended (Some past) None more = ⊥

@@ -1,4 +1,4 @@
--- How a service stands, and the full record of that: 20 bytes, in a layout of this project's own.
+-- The full state of a service, and its full record: 20 bytes, in this project's own layout.
 use Rattle.std.specs.Prelude.{ℕ, ◌≡◌, ◌≢◌, ◌<◌, nat_lt, ◌==◌, ◌&&◌, not, Bool, true, false, if◌then◌else◌, List, []}
 use Rattle.std.specs.Prelude.{◌∷◌, ◌++◌, length, take, slice_index, Option, Some, None}
 use Rattle.tai_status.specs.Record.{Status, IsStatus, IsRecord, flag_byte, status_record}
@@ -8,13 +8,14 @@ use Rattle.tai_status.specs.declared.phase.Phase.TheVariants as phase
 use Rattle.tai_status.specs.declared.record.Want.{Want}
 use Rattle.tai_status.specs.declared.record.Want.TheVariants as want
 
--- What a full record says: the status, where supervise stands, and whether it is to end.
+-- What a full record says: the status, the phase of supervise, and whether supervise exits after the process.
 pub record FullStatus : Type 0 where
   pub status : Status
   pub phase : Phase
   pub exiting : Bool
 
--- What holds of a service in each phase. That what is paused has a process is left out here: it holds of every status.
+-- The condition on a service in each phase. That a paused service has a process isn't repeated here: it is true of each
+-- status.
 abbrev pub StandsIn : Phase → Status → Bool → Type 0
 StandsIn phase.Starting s exiting = (s.pid ≡ 0) × (s.want ≢ want.Down) × (exiting ≡ false)
 StandsIn phase.Settling s exiting =
@@ -24,7 +25,7 @@ StandsIn phase.Up s exiting = 0 < s.pid
 StandsIn phase.Down s exiting = (s.pid ≡ 0) × (s.want ≢ want.Up) × (exiting ≡ false)
 StandsIn phase.Gone s exiting = (s.pid ≡ 0) × (exiting ≡ true)
 
--- The same as a test, for reading: `stands_in-decides` in proofs/Standing says that the two agree.
+-- The same condition as a test, for reading: `stands_in-decides` in proofs/Standing proves that the two agree.
 
 abbrev pub is_want : Want → Want → Bool
 is_want want.Up want.Up = true
@@ -40,30 +41,30 @@ stands_in phase.Up s exiting = nat_lt 0 s.pid
 stands_in phase.Down s exiting = (s.pid == 0) && not (is_want s.want want.Up) && not exiting
 stands_in phase.Gone s exiting = (s.pid == 0) && exiting
 
--- these parts together
+-- the full status with these parts
 abbrev pub full_with : Status → Phase → Bool → FullStatus
 full_with status phase exiting = record { status = status; phase = phase; exiting = exiting }
 
--- the same, where a service can stand so
+-- the full status with these parts, if a service can be in that state
 abbrev pub full_of_parts : Status → Phase → Bool → Option FullStatus
 full_of_parts status phase exiting =
     if stands_in phase status exiting then Some (full_with status phase exiting) else None
 
--- What holds of every full status.
+-- The conditions on each full status.
 pub record IsFull (full : FullStatus) : Type 0 where
   pub status : IsStatus full.status
   pub stands : StandsIn full.phase full.status full.exiting
 
--- These bytes are the full record of this, a clause for each row of its table.
+-- These bytes are the full record of this full status. Each clause is a row of the record's table.
 pub record IsFullRecord (bytes : List ℕ) (full : FullStatus) : Type 0 where
   pub size : length bytes ≡ 20
   -- bytes 0 to 17: the record of its status
   pub status : IsRecord (take 18 bytes) full.status
-  -- byte 18: 1 if supervise is to end, else 0
+  -- byte 18: 1 if supervise exits after the process, 0 if not
   pub exiting : slice_index bytes 18 ≡ flag_byte full.exiting
   -- byte 19: the phase
   pub phase : slice_index bytes 19 ≡ phase_byte full.phase
 
--- the one full record of this
+-- the one full record of a full status
 abbrev pub full_record : FullStatus → List ℕ
 full_record full = status_record full.status ++ (flag_byte full.exiting ∷ []) ++ (phase_byte full.phase ∷ [])

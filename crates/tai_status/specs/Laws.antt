@@ -1,15 +1,15 @@
--- What is true of the definitions, in plain words.
+-- Facts about the definitions, in plain words.
 use Rattle.std.specs.Prelude.{◌≡◌, ◌↔◌, ◌<◌, ℕ, List, [], ◌∷◌, ◌++◌, length, map, flat_map}
 use Rattle.tai_status.specs.Record.{Status, IsRecord, status_record}
 use Rattle.tai_status.specs.Full.{FullStatus, IsFullRecord, full_record}
 use Rattle.tai_status.specs.LineReader.{IsPlain}
 use Rattle.tai_status.specs.Lines.{lines_of, texts_of, without_newline}
 
--- The bytes up to the first newline are the first line, and the other lines are those of what comes after it.
+-- The bytes up to the first newline are the first line. The other lines are those of the bytes after it.
 abbrev pub FirstLine : Type 0
 FirstLine = (line rest : List ℕ) → IsPlain line → lines_of (line ++ 10 ∷ rest) ≡ (line ++ 10 ∷ []) ∷ lines_of rest
 
--- A rest without a newline is the last line, where it is not empty.
+-- A rest without a newline is the last line, if it is not empty.
 abbrev pub LastLine : Type 0
 LastLine = (line : List ℕ) → 0 < length line → IsPlain line → lines_of line ≡ line ∷ []
 

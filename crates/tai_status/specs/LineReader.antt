@@ -1,5 +1,5 @@
--- A reader of lines: the line that it gave last, the bytes that were read and not yet given, and the
--- most bytes that a line may have.
+-- A reader of lines: the line that it gave last, the bytes that were read and not yet given, and the most bytes that a
+-- line may have.
 use Rattle.std.specs.Prelude.{◌≡◌, ℕ, ◌≤◌, ◌==◌, true, not, List, ◌∷◌, ◌++◌}
 use Rattle.std.specs.List.{list_all}
 use Rattle.tai_status.specs.Counted.{Device, Gives}
@@ -9,7 +9,7 @@ pub record Given : Type 0 where
   pub pending : List ℕ
   pub bound : ℕ
 
--- From one place to another, among so many bytes.
+-- A range from one place to another, among this many bytes.
 abbrev pub IsSpan : ℕ → ℕ → ℕ → Type 0
 IsSpan start end len = (start ≤ end) × (end ≤ len)
 

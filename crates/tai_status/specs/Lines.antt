@@ -5,7 +5,7 @@ use Rattle.tai_status.specs.Label.{Tai64n, label_text}
 use Rattle.tai_status.specs.Counted.{Device, Gives, Wrote, WroteFront}
 use Rattle.tai_status.specs.Extended.{Extended}
 
--- the lines of a text, each with its newline, which the last one may lack
+-- the lines of a text, each with its newline; the last line may have none
 abbrev pub lines_of : List ℕ → List (List ℕ)
 lines_of [] = []
 lines_of (byte ∷ bytes) = if byte == 10 then (10 ∷ []) ∷ lines_of bytes else onto_first byte (lines_of bytes)
@@ -19,7 +19,7 @@ texts_of (byte ∷ bytes) = if byte == 10 then [] ∷ texts_of bytes else onto_f
 abbrev pub without_newline : List ℕ → List ℕ
 without_newline line = filter (λ byte. not (byte == 10)) line
 
--- what stands before a line: its label's text and a space
+-- what is written before a line: its label's text and a space
 unfoldable pub stamp : Tai64n → List ℕ
 stamp label = label_text label ++ 32 ∷ []
 
@@ -32,7 +32,7 @@ pub record Sent : Type 0 where
 abbrev pub sent : Tai64n → List ℕ → List Sent
 sent reading bytes = map (λ byte. record { byte = byte; reading = reading }) bytes
 
--- each line after its stamp; a line without a label isn't there
+-- each line after its stamp; a line without a label is left out
 abbrev pub stamped : List Tai64n → List (List ℕ) → List ℕ
 stamped labels [] = []
 stamped [] (line ∷ lines) = []
@@ -47,7 +47,7 @@ pub record StampState : Type 0 where
 abbrev pub stamp_state : Device → Device → Option (List Tai64n) → StampState
 stamp_state reader writer readings = record { reader = reader; writer = writer; readings = readings }
 
--- Bytes were read, of so many lines, and each line was written behind its stamp, with one reading of the clock for
+-- Bytes were read that have this many lines. Each line was written after its stamp, and the clock was read once for
 -- each.
 pub record Stamps (old new : StampState) (count : ℕ) : Type 0 where
   pub bytes : List ℕ
@@ -63,7 +63,7 @@ abbrev pub StampsAll : (reader read writer written : Device) → (past now : Opt
 StampsAll reader read writer written past now =
     (count : ℕ) × Stamps (stamp_state reader writer past) (stamp_state read written now) count
 
--- Bytes were read, and a front of their stamped lines was written.
+-- Bytes were read, and a prefix of their stamped lines was written.
 pub record StampsFront (old new : StampState) : Type 0 where
   pub bytes : List ℕ
   pub labels : List Tai64n
@@ -71,12 +71,12 @@ pub record StampsFront (old new : StampState) : Type 0 where
   pub gave : Extended old.readings new.readings labels
   pub text : WroteFront old.writer new.writer (stamped labels (lines_of bytes))
 
--- A front of the stamped lines of what was read is written.
+-- A prefix of the stamped lines of what was read is written.
 abbrev pub StampsSome : (reader read writer written : Device) → (past now : Option (List Tai64n)) → Type 0
 StampsSome reader read writer written past now =
     StampsFront (stamp_state reader writer past) (stamp_state read written now)
 
--- The same, by a clock that gives its readings so.
+-- The same, for a clock with these readings.
 
 abbrev pub StampsBy : {C : Type 0} (reader read writer written : Device) (readings : C → Option (List Tai64n))
     (past now : C) (count : ℕ) → Type 0

@@ -1,4 +1,4 @@
--- What reading a status record of either length answers: what it says, or the first fault.
+-- The result of reading a status record of either length: what it says, or the first fault.
 use Rattle.std.specs.Prelude.{ℕ, nat_lt, Bool, ◌==◌, if◌then◌else◌, List, length, slice_index, take, Option, Some}
 use Rattle.std.specs.Prelude.{None, Result, Ok, Err}
 use Rattle.tai_status.specs.Record.{Status, IsStatus, IsRecord}
@@ -11,12 +11,12 @@ use Rattle.tai_status.specs.declared.loading.Loaded.TheVariants.{Old, New}
 use Rattle.tai_status.specs.declared.record.RecordFault.{RecordFault}
 use Rattle.tai_status.specs.declared.record.RecordFault.TheVariants.{ExitingFlag, PhaseNumber, NoSuchState}
 
--- These bytes are a record of this: of 18 bytes, which say no phase, or of 20.
+-- These bytes are a record of this: 18 bytes, which have no phase, or 20 bytes.
 abbrev pub IsLoaded : List ℕ → Loaded → Type 0
 IsLoaded bytes (Old status) = IsStatus status × IsRecord bytes status
 IsLoaded bytes (New full) = IsFull full × IsFullRecord bytes full
 
--- what either says of the process and of what is wanted
+-- what a record of either length says of the process and of the wanted state
 abbrev pub status_in : Loaded → Status
 status_in (Old status) = status
 status_in (New full) = full.status
@@ -40,7 +40,7 @@ abbrev pub old_from : Result Status RecordFault → Result Loaded RecordFault
 old_from (Err fault) = Err fault
 old_from (Ok status) = Ok (Old status)
 
--- what these bytes say; of another length than 18 and 20 they are no record
+-- what these bytes say; bytes of any length other than 18 and 20 are no record
 unfoldable pub loaded_from : List ℕ → Result Loaded RecordFault
 loaded_from bytes =
     if length bytes == 20 then full_from (status_from (take 18 bytes)) (slice_index bytes 18) (slice_index bytes 19)

@@ -1,4 +1,4 @@
--- Where supervise stands with a service: its name, and its number in a full record.
+-- The phases of supervise: the name of each, and its number in a full record.
 use Rattle.std.specs.Prelude.{ℕ, ◌==◌, if◌then◌else◌, List, codes, Option, Some, None}
 use Rattle.tai_status.specs.declared.phase.Phase.{Phase}
 use Rattle.tai_status.specs.declared.phase.Phase.TheVariants as phase
@@ -19,7 +19,7 @@ phase_byte phase.Up = 3
 phase_byte phase.Down = 4
 phase_byte phase.Gone = 5
 
--- the phase of this number
+-- the phase with this number
 abbrev pub phase_from : ℕ → Option Phase
 phase_from byte =
     if byte == 0 then Some phase.Starting

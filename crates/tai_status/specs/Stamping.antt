@@ -1,6 +1,6 @@
--- Stamping byte by byte, as the bytes come. No public contract speaks of it.
+-- Stamping byte by byte, as the bytes come. No public contract names these definitions.
 --
--- `inside` says that the bytes go on a line that has begun.
+-- `inside` says that the bytes continue a line that has begun.
 use Rattle.std.specs.Prelude.{◌≡◌, ℕ, ◌+◌, ◌==◌, Bool, true, false, not, List, [], ◌∷◌, ◌++◌, length, Option}
 use Rattle.tai_status.specs.Label.{Tai64n}
 use Rattle.tai_status.specs.Counted.{AppendsFront, Gives}
@@ -8,13 +8,13 @@ use Rattle.tai_status.specs.Block.{Emits}
 use Rattle.tai_status.specs.Lines.{StampState, stamp}
 use Rattle.tai_status.specs.Extended.{Extended}
 
--- the number of lines that begin
+-- the number of lines that begin in these bytes
 abbrev pub begun : Bool → List ℕ → ℕ
 begun inside [] = 0
 begun true (byte ∷ bytes) = begun (not (byte == 10)) bytes
 begun false (byte ∷ bytes) = begun (not (byte == 10)) bytes + 1
 
--- whether a line has begun after these bytes
+-- whether the end of these bytes is inside a line
 abbrev pub is_inside : Bool → List ℕ → Bool
 is_inside inside [] = inside
 is_inside inside (byte ∷ bytes) = is_inside (not (byte == 10)) bytes
@@ -26,7 +26,7 @@ stamped_on false [] (byte ∷ bytes) = []
 stamped_on false (label ∷ labels) (byte ∷ bytes) =
     stamp label ++ byte ∷ stamped_on (not (byte == 10)) labels bytes
 
--- These bytes were stamped: by so many readings of the clock as lines begin in them.
+-- These bytes were stamped. The clock was read once for each line that begins in them.
 pub record StampsPart (inside : Bool) (bytes : List ℕ) (past now : Option (List Tai64n))
     (held holds : Option (List ℕ)) (pending left : List ℕ) : Type 0 where
   pub labels : List Tai64n
@@ -34,14 +34,14 @@ pub record StampsPart (inside : Bool) (bytes : List ℕ) (past now : Option (Lis
   pub each : length labels ≡ begun inside bytes
   pub text : Emits held holds pending left (stamped_on inside labels bytes)
 
--- A write failed while these bytes were stamped.
+-- A write failed while these bytes were being stamped.
 pub record StampsUpTo (inside : Bool) (bytes : List ℕ) (past now : Option (List Tai64n))
     (held holds : Option (List ℕ)) (pending : List ℕ) : Type 0 where
   pub labels : List Tai64n
   pub gave : Extended past now labels
   pub text : AppendsFront held holds (pending ++ stamped_on inside labels bytes)
 
--- All that was read is stamped and written.
+-- All that was read so far is stamped and written.
 pub record SoFar (old new : StampState) (inside : Bool) (count : ℕ) : Type 0 where
   pub bytes : List ℕ
   pub read : Gives old.reader new.reader bytes
@@ -49,7 +49,7 @@ pub record SoFar (old new : StampState) (inside : Bool) (count : ℕ) : Type 0 w
   pub inside_is : inside ≡ is_inside false bytes
   pub count_is : count ≡ begun false bytes
 
--- The same, by a clock that gives its readings so.
+-- The same, for a clock with these readings.
 
 abbrev pub StampsPartBy : {C : Type 0} (inside : Bool) (bytes : List ℕ) (readings : C → Option (List Tai64n))
     (clock read : C) (held holds : Option (List ℕ)) (pending left : List ℕ) → Type 0

@@ -6,7 +6,7 @@ use crate::counted::{DeviceFault, Output};
 use std::io::Write;
 use std::marker::Model;
 
-/// How many bytes are read or written at once.
+/// The number of bytes that are read or written at once.
 pub const BLOCK: usize = 32_768;
 
 /// Bytes that are yet to be written.
@@ -27,7 +27,7 @@ impl Model for Block {
 }
 
 impl Block {
-    /// Nothing is yet to be written.
+    /// Returns a block with nothing to write.
     pub fn new() -> Block
         ensures { result ≡ [] }
     {
@@ -37,28 +37,28 @@ impl Block {
         }
     }
 
-    /// What is yet to be written.
+    /// Returns the bytes that are yet to be written.
     pub fn as_slice(&self) -> &[u8]
         ensures { result.now ≡ self.now }
     {
         &self.bytes[..self.len]
     }
 
-    /// How many bytes more there is room for.
+    /// Returns how many more bytes fit.
     pub fn room(&self) -> usize
         ensures { result + length self.now ≡ 32768 }
     {
         BLOCK - self.len
     }
 
-    /// Nothing is to be written any more.
+    /// Drops the bytes that are yet to be written.
     pub fn clear(&mut self)
         ensures { self.new ≡ [] }
     {
         self.len = 0;
     }
 
-    /// Puts a piece behind what is yet to be written.
+    /// Adds a piece after the bytes that are yet to be written.
     pub fn push(&mut self, piece: &[u8])
         requires { length self.old + length piece.now ≤ 32768 }
         ensures { self.new ≡ self.old ++ piece.now }
@@ -68,8 +68,8 @@ impl Block {
         self.len = end;
     }
 
-    /// Writes what is pending. After a fault a front of it may be written, and what is pending then is
-    /// not promised: it is not to be written again.
+    /// Writes the pending bytes. After a fault, a prefix of them may be written. Nothing is promised of the bytes that
+    /// are pending then: don't write them again.
     pub fn flush<W: Write>(&mut self, writer: &mut Output<W>) -> Result<(), DeviceFault>
         ensures ok { OnOk result (Wrote writer.old writer.new self.old) }
         ensures empty { OnOk result (self.new ≡ []) }
@@ -82,7 +82,7 @@ impl Block {
         Ok(())
     }
 
-    /// Puts a piece behind what is pending, of which full blocks are written.
+    /// Adds a piece after the pending bytes, and writes each block that is full.
     pub fn put<W: Write>(&mut self, piece: &[u8], writer: &mut Output<W>) -> Result<(), DeviceFault>
         ensures ok { OnOk result (Puts writer.old writer.new self.old self.new piece.now) }
         ensures err { OnErr result (WroteFront writer.old writer.new (self.old ++ piece.now)) }
@@ -96,7 +96,7 @@ impl Block {
         Ok(())
     }
 
-    /// Puts a front of a piece, and says how long it is.
+    /// Adds a prefix of a piece, and returns its length.
     fn put_part<W: Write>(
         &mut self,
         piece: &[u8],
@@ -116,7 +116,7 @@ impl Block {
         Ok(count)
     }
 
-    /// Puts two pieces, one after the other.
+    /// Adds two pieces, one after the other.
     pub fn put_both<W: Write>(
         &mut self,
         first: &[u8],

@@ -5,7 +5,7 @@ ghost use Rattle.tai_status.specs.Causes.{cause_of_kind};
 use std::alloc::AllocError;
 use std::io::{Error, ErrorKind};
 
-/// The error numbers that have a cause of their own, and no kind (errno(3)).
+/// The error numbers that have a cause of their own, but no kind (errno(3)).
 const EPERM: i32 = 1;
 
 const EIO: i32 = 5;
@@ -25,61 +25,61 @@ const ENAMETOOLONG: i32 = 36;
 /// Why the system refused something.
 #[derive(Clone, Copy, Debug, PartialEq, Eq)]
 pub enum Cause {
-    /// There is nothing of the name.
+    /// Nothing has this name.
     Missing,
-    /// The user may not do that.
+    /// The user has no permission.
     Denied,
-    /// What should be a folder is none.
+    /// A path needs a folder, and something else is there.
     NoFolder,
-    /// There are as many open descriptors as there may be.
+    /// No more descriptors can be open.
     NoDescriptor,
-    /// There is no memory.
+    /// The system is out of memory.
     NoMemory,
-    /// There are as many threads or processes as there may be.
+    /// No more threads or processes can run.
     NoThread,
-    /// The file system can't be written to.
+    /// The file system is read-only.
     ReadOnly,
-    /// There is no room left on the device.
+    /// No room is left on the device.
     NoSpace,
     /// Links lead to one another.
     Loop,
-    /// Only another user may do that.
+    /// Only another user may do this.
     NotPermitted,
     /// A device failed.
     Device,
-    /// What should be a file is a folder.
+    /// A call needs a file, and a folder is there.
     IsFolder,
-    /// There is something of the name already.
+    /// Something has this name already.
     Exists,
     /// The name is too long.
     LongName,
-    /// A name is no text.
+    /// A name is not valid text.
     NoText,
-    /// A file would be larger than it may be.
+    /// A file would be too large.
     TooLarge,
-    /// The user has as much on the device as the user may have.
+    /// The user's quota of the device is used up.
     Quota,
     /// No process reads the pipe.
     BrokenPipe,
-    /// The descriptor is not open, or not open for that.
+    /// The descriptor is not open, or not open for this call.
     BadDescriptor,
     /// There is no such device, or no process has the other end open.
     NoDevice,
-    /// The file is no program of this machine.
+    /// The file is not a program for this machine.
     BadProgram,
     /// The list of words is too long.
     LongList,
     /// Something is in use.
     Busy,
-    /// A program that runs can't be written to, and one that is written to can't run.
+    /// A program is running and can't be written to, or is open for writing and can't run.
     BusyProgram,
-    /// The call does not fit what it is made on.
+    /// The call does not fit its object.
     Invalid,
     /// Something else.
     Other,
 }
 
-/// The cause that a kind of fault names.
+/// Returns the cause of a kind of fault.
 fn cause_of_kind(kind: ErrorKind) -> Cause
     ensures { result ≡ cause_of_kind kind }
 {
@@ -111,7 +111,7 @@ impl Cause {
     ghost use Rattle.std.specs.IoError.{error_kind, raw_os_error};
     ghost use Rattle.tai_status.specs.Causes.{cause_of, cause_words};
 
-    /// The cause that a fault names.
+    /// Returns the cause of a fault.
     pub fn of(fault: &Error) -> Cause
         ensures { result ≡ cause_of (raw_os_error fault.now) (error_kind fault.now) }
     {
@@ -127,7 +127,7 @@ impl Cause {
         }
     }
 
-    /// Its words, as the C library has them (strerror(3)).
+    /// Returns the words of the cause, as the C library has them (strerror(3)).
     pub fn words(self) -> &'static str
         ensures words { result.now ≡ cause_words self }
         ensures short { length result.now ≤ 34 }

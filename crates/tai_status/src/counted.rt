@@ -6,22 +6,22 @@ use crate::cause::Cause;
 use std::io::{ErrorKind, Read, Write};
 use std::marker::{Model, PhantomData};
 
-/// How often a device is read at most, and how often one write is tried.
+/// The most reads of a device, and the most tries of one write.
 const MOST_READS: u64 = 1 << 48;
 
 /// A fault of a device. Its [`Counted`] shows the count and the cause.
 #[derive(Clone, Copy, Debug, PartialEq, Eq)]
 pub struct DeviceFault;
 
-/// The way of a device that is read.
+/// Marks a device that is read.
 #[derive(Clone, Copy)]
 pub struct In;
 
-/// The way of a device that is written.
+/// Marks a device that is written.
 #[derive(Clone, Copy)]
 pub struct Out;
 
-/// What can be used this way: contracts see the bytes that it has left, or that it holds.
+/// A device that can be used in this way. Contracts see the bytes that it has left, or that it holds.
 pub trait Used<Way> {
     ghost use Rattle.std.specs.Prelude.{ℕ, Option, List};
 
@@ -36,11 +36,11 @@ impl<D: Write> Used<Out> for D {
     ghost bytes = { D.contents };
 }
 
-/// A reader or a writer, with counts of its reads and of its faults, and the cause of its last fault. Which of the two
-/// it is follows from its use.
+/// A reader or a writer, with counts of its reads and its faults, and the cause of its last fault. Its use decides
+/// which of the two it is.
 ///
-/// A call returns a fault only if the count of faults rose in that call, or was at its end. After 2^48 reads each
-/// further one is a fault, so that every loop over a reader ends.
+/// A call returns a fault only if the count of faults rose in that call, or was at its maximum. After 2^48 reads, each
+/// further read is a fault, so each loop over a reader ends.
 #[derive(Drop)]
 pub struct Counted<D: Used<Way>, Way> {
     device: D,
@@ -68,7 +68,7 @@ impl<D: Used<Way>, Way> Model for Counted<D, Way> {
 }
 
 impl<D: Used<Way>, Way> Counted<D, Way> {
-    /// The device, not read and without a fault yet.
+    /// Wraps a device, with no reads and no faults counted yet.
     pub fn new(device: D) -> Counted<D, Way>
         ensures { result ≡ record { bytes = D.bytes device; reads = 0; faults = 0; cause = None } }
     {
@@ -81,14 +81,14 @@ impl<D: Used<Way>, Way> Counted<D, Way> {
         }
     }
 
-    /// The number of faults so far. It stops at `u64::MAX`.
+    /// Returns the number of faults so far. It stops at `u64::MAX`.
     pub fn faults(&self) -> u64
         ensures { result ≡ self.now.faults }
     {
         self.faults
     }
 
-    /// The number of reads so far, 2^48 at most.
+    /// Returns the number of reads so far, at most 2^48.
     pub fn reads(&self) -> u64
         ensures count { result ≡ self.now.reads }
         ensures bounded { result ≤ 2 ^ 48 }
@@ -96,14 +96,14 @@ impl<D: Used<Way>, Way> Counted<D, Way> {
         self.reads
     }
 
-    /// The cause of the last fault.
+    /// Returns the cause of the last fault.
     pub fn cause(&self) -> Option<Cause>
         ensures { result ≡ self.now.cause }
     {
         self.cause
     }
 
-    /// The device itself.
+    /// Returns the device itself.
     pub fn into_device(self) -> D
         ensures { D.bytes result ≡ self.bytes }
     {
@@ -111,7 +111,7 @@ impl<D: Used<Way>, Way> Counted<D, Way> {
         device
     }
 
-    /// Counts a fault, and keeps its cause. The count stops at its end.
+    /// Counts a fault, and keeps its cause. The count stops at its maximum.
     fn count_fault(&mut self, cause: Cause) -> DeviceFault
         ensures rose { Fails self.old self.new }
         ensures cause { self.new.cause ≡ Some cause }
@@ -125,7 +125,7 @@ impl<D: Used<Way>, Way> Counted<D, Way> {
 }
 
 impl<D: Read> Counted<D, In> {
-    /// Reads once, and again where a read was interrupted. No byte is lost at a fault.
+    /// Reads once, and tries again if the read was interrupted. A fault loses no byte.
     pub fn read(&mut self, into: &mut [u8]) -> Result<usize, DeviceFault>
         ensures bound { IfOk result (λ count. count ≤ length into.new) }
         ensures bytes { ReadConsumes self.old.bytes self.new.bytes result into.new }
@@ -150,8 +150,8 @@ impl<D: Read> Counted<D, In> {
 }
 
 impl<D: Write> Counted<D, Out> {
-    /// Writes a front of the piece, and again where a write was interrupted. That none of its bytes
-    /// was taken is a fault.
+    /// Writes a prefix of the piece, and tries again if the write was interrupted. It is a fault if the device takes no
+    /// byte.
     pub fn write(&mut self, piece: &[u8]) -> Result<usize, DeviceFault>
         ensures bound { IfOk result (λ count. count ≤ length piece.now) }
         ensures some { IfOk result (λ count. 0 < length piece.now → 0 < count) }
@@ -179,7 +179,7 @@ impl<D: Write> Counted<D, Out> {
         Err(self.count_fault(Cause::Other))
     }
 
-    /// Writes the whole piece. After a fault a front of it is written.
+    /// Writes the whole piece. After a fault, a prefix of it is written.
     pub fn write_all(&mut self, piece: &[u8]) -> Result<(), DeviceFault>
         ensures ok { OnOk result (Wrote self.old self.new piece.now) }
         ensures err { OnErr result (WroteFront self.old self.new piece.now) }

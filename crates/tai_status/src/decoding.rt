@@ -6,13 +6,13 @@ use crate::label::{Label, LabelFault};
 use crate::reading::unpack;
 use crate::record::{RecordFault, View, Want};
 
-/// The view that these bytes are the status record of.
+/// Reads these bytes as a status record of 18 bytes. Returns the first fault if they are none.
 pub fn decode(bytes: &[u8]) -> Result<View, RecordFault>
-    // What is read has this record.
+    // Whatever is read has this record.
     ensures found { IfOk result (λ status. IsStatus status × IsRecord bytes.now status) }
-    // What has this record is read.
+    // Whatever has this record is read.
     ensures only { (status : Status) → IsStatus status → IsRecord bytes.now status → result ≡ Ok status }
-    // Which fault it is.
+    // The first fault is returned.
     ensures exact { result ≡ status_from bytes.now }
 {
     read_record(bytes)

@@ -1,4 +1,4 @@
-//! How a service stands, and the full record of that.
+//! The full state of a service, and its full record.
 ghost use Rattle.std.specs.Prelude.{◌≡◌, ◌↔◌, IsSome, IfSome, IsTrue};
 ghost use Rattle.tai_status.specs.Full.{IsFullRecord, StandsIn, full_of_parts, full_record, full_with, stands_in};
 
@@ -11,9 +11,9 @@ use std::marker::Model;
 pub struct Full {
     /// What a record of 18 bytes says.
     pub view: View,
-    /// Where supervise stands.
+    /// The phase of supervise.
     pub phase: Phase,
-    /// Whether supervise is to end once there is no process.
+    /// Whether supervise exits once there is no process.
     pub exiting: bool,
 }
 
@@ -30,7 +30,7 @@ impl Model for Full {
 }
 
 impl Full {
-    /// These parts together, where a service can stand so:
+    /// Returns these parts together, if a service can be in that state:
     ///
     /// | phase | process | want | exiting |
     /// |---|---|---|---|
@@ -56,7 +56,7 @@ impl Full {
     }
 }
 
-/// Whether a service can stand so.
+/// Returns whether a service can be in this state.
 fn can_stand(phase: Phase, view: &View, exiting: bool) -> bool
     ensures stands { IsTrue result ↔ StandsIn phase view.now exiting }
     ensures test { result ≡ stands_in phase view.now exiting }
@@ -72,12 +72,12 @@ fn can_stand(phase: Phase, view: &View, exiting: bool) -> bool
     }
 }
 
-/// The full status record of a service: its record of 18 bytes, 1 if supervise is to end or else 0, and the number of
-/// its phase.
+/// Returns the full status record of a service: its record of 18 bytes, 1 if supervise exits after the process or 0 if
+/// not, and the number of its phase.
 pub fn encode_full(full: &Full) -> [u8; 20]
-    // The bytes stand in the rows of the record's table.
+    // The bytes are in the rows of the record's table.
     ensures rows { IsFullRecord result full.now }
-    // No other bytes do.
+    // No other bytes are.
     ensures record { result ≡ full_record full.now }
 {
     write_full(full)

@@ -1,7 +1,7 @@
-//! What all crates above share, in four parts: TAI64N labels; the status records of a service; counted readers and
+//! What all crates above share, in four groups: TAI64N labels; the status records of a service; counted readers and
 //! writers, with the lines of an input and their stamps; and lists of names and lines.
 //!
-//! A part knows those before it alone. They are one crate since each is small, and most crates above want several.
+//! Each group uses only those before it. They are one crate since each is small, and most crates above need several.
 #![tactic(auto)]
 
 mod block;

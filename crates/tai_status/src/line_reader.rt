@@ -14,8 +14,8 @@ use thiserror::Error;
 /// Why there is no next line.
 #[derive(Clone, Copy, Debug, PartialEq, Eq, Error)]
 pub enum LineFault {
-    /// More bytes wait than a line may have, so no more is read. Once the lines among them are taken, none of
-    /// these bytes is a newline.
+    /// More bytes wait than a line may have, so no more is read. After the whole lines among them are taken, none of
+    /// the waiting bytes is a newline.
     #[error("TooLong")]
     TooLong,
     /// The reader failed.
@@ -25,8 +25,8 @@ pub enum LineFault {
 
 /// The lines of a reader, in order, each of at most `bound` bytes without its newline.
 ///
-/// It holds `bound + 1` bytes from the beginning on, and no more. A read happens in
-/// [`fill`](LineReader::fill) alone, so that its owner knows when the input is waited for.
+/// It holds `bound + 1` bytes from the beginning, and never more. Only [`fill`](LineReader::fill) reads, so the owner
+/// knows when it waits for input.
 #[derive(Drop)]
 pub struct LineReader<A: Allocator = Global> {
     bytes: Vec<u8, A>,
@@ -54,7 +54,7 @@ impl<A: Allocator> Model for LineReader<A> {
 }
 
 impl<A: Allocator> LineReader<A> {
-    /// A reader of lines that has read nothing yet.
+    /// Returns a reader of lines that has read nothing yet.
     pub fn new(alloc: A, bound: usize) -> Result<LineReader<A>, AllocError>
         requires { bound < 2 ^ 62 }
         ensures { IfOk result (λ reader. reader ≡ record { line = []; pending = []; bound = bound }) }
@@ -69,21 +69,21 @@ impl<A: Allocator> LineReader<A> {
         })
     }
 
-    /// The line that was given last, without its newline.
+    /// Returns the line that was taken last, without its newline.
     pub fn line(&self) -> &[u8]
         ensures { result.now ≡ self.now.line }
     {
         &self.bytes.as_slice()[self.line_start..self.line_end]
     }
 
-    /// What was read and not yet given.
+    /// Returns the bytes that were read and not yet given.
     fn pending(&self) -> &[u8]
         ensures { result.now ≡ self.now.pending }
     {
         &self.bytes.as_slice()[self.start..self.end]
     }
 
-    /// Gives the next line, where all of it and its newline were read. Reads nothing.
+    /// Takes the next line, if all of it and its newline were read. Reads nothing.
     pub fn take_line(&mut self) -> bool
         ensures taken { result ≡ true → TakesLine self.old self.new }
         ensures none { result ≡ false → IsPlain self.old.pending × (self.new ≡ self.old) }
@@ -99,8 +99,8 @@ impl<A: Allocator> LineReader<A> {
         }
     }
 
-    /// Gives all that was read and not yet given, as the last line of an input that has ended. Answers
-    /// whether there was such a line. Nothing is pending after it.
+    /// Takes all that was read and not yet given, as the last line of an input that has ended. Returns whether there
+    /// was such a line. Nothing is pending afterwards.
     pub fn take_rest(&mut self) -> bool
         ensures taken { result ≡ true → self.new.line ≡ self.old.pending }
         ensures none { result ≡ false ↔ (self.old.pending ≡ []) }
@@ -114,9 +114,9 @@ impl<A: Allocator> LineReader<A> {
         some
     }
 
-    /// Reads once, behind what is pending. Answers whether bytes came: none come at the end of the
-    /// input alone. That a line is too long is reported before anything more is read. The line that was
-    /// given last is given up.
+    /// Reads once, and adds the bytes after those that are pending. Returns whether bytes came: none come only at the
+    /// end of the input. A line that is too long is reported before anything more is read. The line that was taken last
+    /// is dropped.
     pub fn fill<D: Read>(&mut self, reader: &mut Input<D>) -> Result<bool, LineFault>
         ensures filled { OnOk result (Fills reader.old reader.new self.old self.new) }
         ensures more { IfOk result (λ more. more ≡ true → length self.old.pending < length self.new.pending) }
@@ -140,7 +140,7 @@ impl<A: Allocator> LineReader<A> {
         }
     }
 
-    /// Moves what is pending to the front, and reads once into the room behind it.
+    /// Moves the pending bytes to the front, and reads once into the room after them.
     fn read_more<D: Read>(&mut self, reader: &mut Input<D>) -> Result<usize, DeviceFault>
         requires { length self.old.pending ≤ self.old.bound }
         ensures filled { OnOk result (Fills reader.old reader.new self.old self.new) }
@@ -166,7 +166,7 @@ impl<A: Allocator> LineReader<A> {
     }
 }
 
-/// Moves the bytes from one place to another to the front.
+/// Moves a range of bytes to the front.
 fn move_to_front(bytes: &mut [u8], start: usize, end: usize)
     requires order { start ≤ end }
     requires within { end ≤ length bytes.old }
@@ -177,7 +177,7 @@ fn move_to_front(bytes: &mut [u8], start: usize, end: usize)
     }
 }
 
-/// Reads once, into the bytes from one place to another.
+/// Reads once, into a range of the bytes.
 fn read_into<D: Read>(
     bytes: &mut [u8],
     at: usize,

@@ -4,7 +4,7 @@ ghost use Rattle.std.specs.Prelude.{◌≡◌, ◌↔◌, IsTrue, [], length, st
 use std::alloc::{Allocator, Global};
 use std::marker::Model;
 
-/// A name, as of a service's folder. Contracts see its bytes.
+/// A name, such as that of a service's folder. Contracts see its bytes.
 #[derive(Drop)]
 pub struct Name<A: Allocator = Global> {
     text: String<A>,
@@ -19,14 +19,14 @@ impl<A: Allocator> Model for Name<A> {
 }
 
 impl<A: Allocator> Name<A> {
-    /// The name that is this text.
+    /// Returns the name with this text.
     pub fn new(text: String<A>) -> Name<A>
         ensures { result ≡ string_bytes text }
     {
         Name { text }
     }
 
-    /// The text of the name.
+    /// Returns the text of the name.
     pub fn as_str(&self) -> &str
         ensures { result.now ≡ self.now }
     {
@@ -57,7 +57,7 @@ impl<A: Allocator> Model for Names<A> {
 }
 
 impl<A: Allocator> Names<A> {
-    /// The list of these names.
+    /// Returns the list of these names.
     pub fn from_vec(names: Vec<Name<A>, A>) -> Names<A>
         ensures { result ≡ names.items }
     {
@@ -72,21 +72,21 @@ impl<A: Allocator> Names<A> {
         names
     }
 
-    /// The names, in order.
+    /// Returns the names, in order.
     pub fn as_slice(&self) -> &[Name<A>]
         ensures { result.now ≡ self.now }
     {
         self.names.as_slice()
     }
 
-    /// How many names there are.
+    /// Returns how many names there are.
     pub fn len(&self) -> usize
         ensures { result ≡ length self.now }
     {
         self.names.len()
     }
 
-    /// Whether there is no name.
+    /// Returns whether there is no name.
     pub fn is_empty(&self) -> bool
         ensures { IsTrue result ↔ (self.now ≡ []) }
     {
@@ -109,7 +109,7 @@ impl<A: Allocator> Model for Lines<A> {
 }
 
 impl<A: Allocator> Lines<A> {
-    /// The list of these lines.
+    /// Returns the list of these lines.
     pub fn from_vec(lines: Vec<String<A>, A>) -> Lines<A>
         ensures { result ≡ map (λ line. string_bytes line) lines.items }
     {
@@ -124,21 +124,21 @@ impl<A: Allocator> Lines<A> {
         lines
     }
 
-    /// The lines, in order.
+    /// Returns the lines, in order.
     pub fn as_slice(&self) -> &[String<A>]
         ensures { map (λ line. string_bytes line) result.now ≡ self.now }
     {
         self.lines.as_slice()
     }
 
-    /// How many lines there are.
+    /// Returns how many lines there are.
     pub fn len(&self) -> usize
         ensures { result ≡ length self.now }
     {
         self.lines.len()
     }
 
-    /// Whether there is no line.
+    /// Returns whether there is no line.
     pub fn is_empty(&self) -> bool
         ensures { IsTrue result ↔ (self.now ≡ []) }
     {

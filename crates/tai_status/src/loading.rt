@@ -11,9 +11,9 @@ use crate::record::{RecordFault, View};
 /// What the bytes of a status record say.
 #[derive(Clone, Copy, Debug, PartialEq, Eq)]
 pub enum Loaded {
-    /// Of 18 bytes, which say no phase: the record of an earlier dtools.
+    /// A record of 18 bytes, which has no phase: that of an earlier dtools.
     Old(View),
-    /// Of 20 bytes.
+    /// A record of 20 bytes.
     New(Full),
 }
 
@@ -21,7 +21,7 @@ impl Loaded {
     ghost use Rattle.std.specs.Prelude.{◌≡◌};
     ghost use Rattle.tai_status.specs.Loading.{status_in};
 
-    /// What either says of the process and of what is wanted.
+    /// Returns what a record of either length says of the process and of the wanted state.
     pub fn view(&self) -> View
         ensures { result ≡ status_in self.now }
     {
@@ -32,24 +32,24 @@ impl Loaded {
     }
 }
 
-/// What these bytes say, where they are a status record of 18 or of 20 bytes.
+/// Reads these bytes as a status record of 18 or of 20 bytes. Returns the first fault if they are neither.
 pub fn decode_any(bytes: &[u8]) -> Result<Loaded, RecordFault>
-    // What is read has this record.
+    // Whatever is read has this record.
     ensures found { IfOk result (λ loaded. IsLoaded bytes.now loaded) }
-    // What has this record is read.
+    // Whatever has this record is read.
     ensures only { (loaded : Loaded) → IsLoaded bytes.now loaded → result ≡ Ok loaded }
-    // Which fault it is.
+    // The first fault is returned.
     ensures exact { result ≡ loaded_from bytes.now }
 {
     load(bytes)
 }
 
-/// How many first bytes of a status file are enough to read it: one more than the longer record has, which says a
-/// longer file.
+/// How many first bytes of a status file are enough to read it: one more than the longer record has, which shows that
+/// the file is longer.
 pub const STATUS_FRONT: usize = 21;
 
-/// What a status file says, of which these are the first `STATUS_FRONT` bytes, or all: however long it is, the whole
-/// file says the same.
+/// Reads a status file by its first `STATUS_FRONT` bytes, or by all of them if it has fewer. The whole file, however
+/// long, would give the same result.
 pub fn decode_front(front: &[u8]) -> Result<Loaded, RecordFault>
     ensures read { result ≡ loaded_from front.now }
     ensures file { (file : List ℕ) → front.now ≡ take STATUS_FRONT file → result ≡ loaded_from file }

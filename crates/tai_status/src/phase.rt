@@ -1,13 +1,13 @@
-//! Where supervise stands with a service.
+//! The phases of supervise.
 ghost use Rattle.std.specs.Prelude.{◌≡◌, ◌≤◌, length};
 ghost use Rattle.tai_status.specs.Phase.{phase_name, phase_byte, phase_from};
 
 use std::fmt;
 
-/// Where supervise stands with a service.
+/// The phase of supervise, for one service.
 #[derive(Clone, Copy, Debug, PartialEq, Eq)]
 pub enum Phase {
-    /// A start was asked for and not answered.
+    /// A start was asked for, and its result is not known yet.
     Starting,
     /// A process was started less than a second ago.
     Settling,
@@ -15,13 +15,13 @@ pub enum Phase {
     Resting,
     /// There is a process.
     Up,
-    /// There is none, and none is wanted.
+    /// There is no process, and none is wanted.
     Down,
-    /// There is none, and supervise is done.
+    /// There is no process, and supervise is done.
     Gone,
 }
 
-/// The name of a phase.
+/// Returns the name of a phase.
 pub fn phase_name(phase: Phase) -> &'static str
     ensures name { result.now ≡ phase_name phase }
     ensures short { length result.now ≤ 8 }
@@ -47,7 +47,7 @@ impl fmt::Display for Phase {
     }
 }
 
-/// The number of a phase, as a full record has it.
+/// Returns the number of a phase in a full record.
 pub(crate) fn phase_byte(phase: Phase) -> u8
     ensures { result ≡ phase_byte phase }
 {
@@ -61,7 +61,7 @@ pub(crate) fn phase_byte(phase: Phase) -> u8
     }
 }
 
-/// The phase of this number.
+/// Returns the phase with this number.
 pub(crate) fn phase_from(byte: u8) -> Option<Phase>
     ensures { result ≡ phase_from byte }
 {

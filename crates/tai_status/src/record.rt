@@ -5,7 +5,7 @@ use crate::label::{Label, pack};
 use std::marker::Model;
 use thiserror::Error;
 
-/// What is wanted of a service: that it is up, that it is down, or that it runs once.
+/// What is wanted of a service: to be up, to be down, or to run once.
 #[derive(Clone, Copy, Debug, PartialEq, Eq, Hash)]
 pub enum Want {
     Up,
@@ -28,11 +28,11 @@ impl Want {
 /// What a status record says of a service.
 #[derive(Clone, Copy, Debug, PartialEq, Eq, Hash)]
 pub struct View {
-    /// The last change of process.
+    /// When the process last changed.
     pub label: Label,
     /// The process number, 0 for none.
     pub pid: u32,
-    /// Whether there is a process, and it is paused.
+    /// Whether there is a process that is paused.
     pub paused: bool,
     pub want: Want,
 }
@@ -51,7 +51,7 @@ impl Model for View {
 }
 
 impl View {
-    /// The view of these parts. None where there is no process and it is paused.
+    /// Returns the view with these parts, or `None` if it is paused and has no process.
     pub fn new(label: Label, pid: u32, paused: bool, want: Want) -> Option<View>
         ensures valid { IsSome result ↔ (paused ≡ true → 0 < pid) }
         ensures value { IfSome result (λ v. v ≡ record { label = label; pid = pid; paused = paused; want = want }) }
@@ -68,13 +68,13 @@ impl View {
     }
 }
 
-/// Why bytes are no status record. The first of these that applies is reported.
+/// Why bytes are no status record. The first one that applies is reported.
 #[derive(Clone, Copy, Debug, PartialEq, Eq, Error)]
 pub enum RecordFault {
-    /// Not 18 bytes; where both lengths are read, not 20 either.
+    /// The length is not 18 bytes. If both lengths are read, it is not 20 either.
     #[error("Length")]
     Length,
-    /// Bytes 0 to 11 are no packed label.
+    /// Bytes 0 to 11 are not a packed label.
     #[error("BadLabel")]
     BadLabel,
     /// Byte 16 is neither 0 nor 1.
@@ -83,26 +83,26 @@ pub enum RecordFault {
     /// Byte 16 is 1, and the process number is 0.
     #[error("PausedNoProcess")]
     PausedNoProcess,
-    /// Byte 17 is none of `u`, `d` and 0.
+    /// Byte 17 is not `u`, `d` or 0.
     #[error("WantByte")]
     WantByte,
-    /// Of 20 bytes, byte 18 is neither 0 nor 1.
+    /// In a record of 20 bytes, byte 18 is neither 0 nor 1.
     #[error("ExitingFlag")]
     ExitingFlag,
-    /// Of 20 bytes, byte 19 is the number of no phase.
+    /// In a record of 20 bytes, byte 19 is not the number of a phase.
     #[error("PhaseNumber")]
     PhaseNumber,
-    /// Of 20 bytes, no service stands so.
+    /// In a record of 20 bytes, the parts are not a state of a service.
     #[error("NoSuchState")]
     NoSuchState,
 }
 
-/// The status record of a service: the packed label, the process number with its least significant
-/// byte first, 1 if it is paused or else 0, and `u`, `d` or 0 for what is wanted.
+/// Returns the status record of a service: the packed label; the process number, least significant byte first; 1 if it
+/// is paused, 0 if not; and `u`, `d` or 0 for what is wanted.
 pub fn encode(view: &View) -> [u8; 18]
-    // The bytes stand in the rows of the record's table.
+    // The bytes are in the rows of the record's table.
     ensures rows { IsRecord result view.now }
-    // No other bytes do.
+    // No other bytes are.
     ensures record { result ≡ status_record view.now }
 {
     write_record(view)

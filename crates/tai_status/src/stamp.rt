@@ -15,7 +15,7 @@ use memchr::memchr;
 use std::io::{Read, Write};
 use thiserror::Error;
 
-/// A clock. Contracts see the labels that it gave, where it keeps them.
+/// A clock. Contracts see the labels that it gave, if it keeps them.
 pub trait TimeSource {
     ghost use Rattle.std.specs.Prelude.{Bool, Option, List, None};
     ghost use Rattle.tai_status.specs.Label.{Tai64n};
@@ -35,7 +35,7 @@ pub enum StampFault {
     Write,
 }
 
-/// What some bytes begin with, up to a newline or to their end.
+/// A prefix of some bytes, up to their first newline or to their end.
 #[derive(Clone, Copy)]
 struct Part {
     len: usize,
@@ -61,7 +61,7 @@ fn first_part(bytes: &[u8]) -> Part
     }
 }
 
-/// Puts bytes of one line, behind a stamp where they begin it.
+/// Adds bytes of one line, after a stamp if they begin it.
 fn stamp_part<E: Write, C: TimeSource>(
     part: &[u8],
     inside: bool,
@@ -110,7 +110,7 @@ fn stamp_block<E: Write, C: TimeSource>(
     Ok(count)
 }
 
-/// The number of lines that begin with a part.
+/// Returns the number of lines that begin with a part.
 fn lines_begun(inside: bool) -> u64
     ensures { result ≡ (if inside then 0 else 1) }
 {
@@ -148,8 +148,8 @@ fn stamp_parts<E: Write, C: TimeSource>(
     Ok(count)
 }
 
-/// Writes each line after the text of a label and a space. A label is read for each line, at its first
-/// byte. What a read gave is written before the next read. Answers the number of lines.
+/// Writes each line after the text of a label and a space. The clock is read for each line, at its first byte. What a
+/// read gave is written before the next read. Returns the number of lines.
 pub fn stamp_lines<D: Read, E: Write, C: TimeSource>(
     reader: &mut Input<D>,
     writer: &mut Output<E>,
@@ -160,11 +160,11 @@ pub fn stamp_lines<D: Read, E: Write, C: TimeSource>(
         C.readings clock.old clock.new) }
     ensures end { OnOk result (IsRead reader.new) }
     ensures works { OnOk result (Works reader.old reader.new × Works writer.old writer.new) }
-    // The reader failed, and all lines that it gave are stamped and written.
+    // The reader failed. All lines that it gave are stamped and written.
     ensures read { IsErrOf result StampFault.Read
         → StampsAllBy reader.old reader.new writer.old writer.new C.readings clock.old clock.new }
     ensures unread { IsErrOf result StampFault.Read → Fails reader.old reader.new × Works writer.old writer.new }
-    // The writer failed, after a front of the stamped text of what was read.
+    // The writer failed, after a prefix of the stamped text of what was read.
     ensures write { IsErrOf result StampFault.Write
         → StampsSomeBy reader.old reader.new writer.old writer.new C.readings clock.old clock.new }
     ensures unwritten { IsErrOf result StampFault.Write → Works reader.old reader.new × Fails writer.old writer.new }
@@ -188,7 +188,7 @@ pub fn stamp_lines<D: Read, E: Write, C: TimeSource>(
     }
 }
 
-/// A label's text and a space.
+/// Returns a label's text and a space.
 #[tactic(auto, unfolding(crate::specs::Lines::stamp))]
 fn stamp_bytes(label: &Label) -> [u8; 26]
     ensures { result ≡ stamp label.now }
@@ -198,7 +198,7 @@ fn stamp_bytes(label: &Label) -> [u8; 26]
     bytes
 }
 
-/// Puts a stamp and bytes.
+/// Adds a stamp and bytes.
 fn put_line<E: Write>(
     label: &Label,
     bytes: &[u8],

@@ -6,7 +6,7 @@ use Rattle.scan_table.specs.Index.{IsBefore}
 use Rattle.scan_table.proofs.Placed.{renewed-next, renewed-last, renewed-rising}
 use Rattle.scan_table.proofs.place.restart_all.Goals as goal
 
--- what is read past the end of the parts
+-- the default for places past the end of the parts
 abbrev past : PartId
 past = record { slot = 0; role = Main; life = 0 }
 

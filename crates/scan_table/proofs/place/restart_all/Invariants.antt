@@ -4,7 +4,7 @@ use Rattle.scan_table.specs.Table.{renewed}
 use Rattle.scan_table.specs.Index.{IsBefore}
 use Rattle.scan_table.proofs.place.restart_all.Given as goal
 
--- with the parts that are left, the slots become what they become with all
+-- with the parts that are left, the slots become what they become with all parts
 abbrev pub invariant-loop-part : goal.invariant-loop-part
 invariant-loop-part g l = record {
   rising : AllPairs IsBefore l.slots;

@@ -5,7 +5,7 @@ use Rattle.scan_table.specs.Index.{names_of, ArePassed}
 use Rattle.scan_table.specs.Scan.{need, needs, new_rows, in_turn, new_slots_at, restarts_at, new_slots, restarts}
 use Rattle.scan_table.proofs.plan.assign_all.Given as goal
 
--- the new names so far are counted, and what is given so far and what is left is the whole
+-- the new names so far are counted; what was given so far and what is left make the whole
 abbrev pub invariant-loop-row : goal.invariant-loop-row
 invariant-loop-row g l = record {
   at : l.at ≤ length l.index;

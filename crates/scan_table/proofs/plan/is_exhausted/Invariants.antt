@@ -5,7 +5,7 @@ use Rattle.scan_table.specs.Index.{names_of, ArePassed}
 use Rattle.scan_table.specs.Scan.{need, new_rows, is_exhausted}
 use Rattle.scan_table.proofs.plan.is_exhausted.Given as goal
 
--- the new names so far are counted, and the rest's needs are as much too many as all are
+-- the new names so far are counted; the rest needs too many numbers exactly if all rows do
 abbrev pub invariant-loop-row : goal.invariant-loop-row
 invariant-loop-row g l = record {
   at : l.at ≤ length l.index;

@@ -4,7 +4,7 @@ use Rattle.suite_core.specs.Parts.{restarted_in}
 use Rattle.suite_core.specs.Places.{AreRising}
 use Rattle.suite_core.proofs.place.restart_all.Given as goal
 
--- with the parts that are left, the parts become what they become with all
+-- with the parts that are left, the parts become what they become with all of them
 abbrev pub invariant-loop-new : goal.invariant-loop-new
 invariant-loop-new g l = record {
   can : (goal.iterator-loop-new g).can_next l.new-iterator;

@@ -4,7 +4,7 @@ use Rattle.sup_core.specs.Fields.{fields_after}
 use Rattle.suite_lines.specs.Fields.{are_rows}
 use Rattle.suite_lines.proofs.reading.are_rows.Given as goal
 
--- The fields passed are texts of rows.
+-- The fields so far are texts of rows.
 abbrev pub invariant-loop-left : goal.invariant-loop-left
 invariant-loop-left l = are_rows (fields_after (option_copied l.left))
     ≡ are_rows (fields_after (option_copied l.fn.rest))

@@ -6,7 +6,7 @@ use Rattle.suite_lines.specs.Reading.{rows_of_texts}
 use Rattle.suite_lines.specs.Fields.{are_rows}
 use Rattle.suite_lines.proofs.reading.own_rows.Given as goal
 
--- The fields left are texts of rows, which come behind the rows so far.
+-- The fields left are texts of rows. These come after the rows so far.
 abbrev pub invariant-loop-left : goal.invariant-loop-left
 invariant-loop-left g l = record {
   right : are_rows (fields_after (option_copied l.left)) ≡ true;

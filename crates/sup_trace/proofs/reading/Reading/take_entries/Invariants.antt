@@ -2,7 +2,7 @@ use Rattle.std.proofs.Common.{◌≡◌, ℕ, ◌+◌, ◌^◌, ◌<◌, length}
 use Rattle.sup_trace.specs.Reading.{Entries, content_by_parts, parts_of, ReadsEntry}
 use Rattle.sup_trace.proofs.reading.Reading.take_entries.Given as goal
 
--- What is left reports the same, and an entry that is read there is read.
+-- The text that is left gives the same result. An entry that is read from it is read from the whole text.
 abbrev pub invariant-entries : goal.invariant-entries
 invariant-entries g l = record {
   room : l.lines.number + length l.lines.rest.now < 2 ^ 64;
