@@ -61,6 +61,7 @@ ended 'added again' 111 'dtools-service: a b: it is there already' --add 'own/a 
 ended 'it is there' 0 '' --list 'a b'
 ended 'the list' 0 '' --list
 is 'the list' "a b $room/own/a b" "$(cat out)"
+is 'svwait waits until it is supervised, and up' 0 "$("$program" wait -t 60 'services/a b'; echo $?)"
 soon 'it is up' is_up 'services/a b'
 soon 'its logger is up' is_up 'services/a b/log'
 ended 'removed' 0 '' --remove 'a b'
@@ -68,5 +69,17 @@ is 'neither is served' '100 100' "$(for part in 'own/a b' 'own/a b/log'; do is_s
 is 'its last words are logged' 'last words' "$(cat 'own/a b/log/main/current')"
 sleep 6
 is 'it does not begin anew' 100 "$(is_served 'own/a b'; echo $?)"
+
+# It asks svscan for a scan, so a service is there before the next round. Rounds are five seconds apart.
+soon 'svscan is served' is_served services/.svscan
+for turn in 1 2 3; do
+  sleep 1
+  begin=$(date +%s%N)
+  ended "added, $turn" 0 '' --add 'own/a b'
+  soon "served, $turn" is_served 'own/a b'
+  echo $((($(date +%s%N) - begin) / 1000000)) >>took
+  ended "removed, $turn" 0 '' --remove 'a b'
+done
+is 'it was served soon' yes "$([ "$(sort -n took | sed -n 2p)" -lt 1500 ] && echo yes || cat took)"
 is 'svscan reported nothing' '' "$(cat scan.reported)"
 counts service

@@ -238,7 +238,7 @@ ended 'one twice' 99 'wait: s: not up in time
 wait: s: not up in time' -t 0 s t s
 ended 'the first that is not supervised' 102 'wait: nosuch: supervise not running
 wait: nosuch: No such file or directory
-wait: nowhere: No such file or directory' -t 0 s t nosuch nowhere
+wait: nowhere: No such file or directory' s t nosuch nowhere
 status t 00
 ended 'the first fault' 111 'wait: t: bad status record: Length
 wait: nosuch: No such file or directory' s t nosuch
@@ -247,7 +247,7 @@ wait: nosuch: No such file or directory' s nosuch t
 status t "$label$some"00$up"00$phase_up"
 
 # Its supervision ends meanwhile.
-begun 'nobody answers any more: -u' -t 100 s
+begun 'nobody answers any more: -u' s
 kill -KILL "$ok"
 over 'nobody answers any more: -u' 102 'wait: s: supervise not running'
 ended 'nobody answers any more: -x' 0 '' -x s
@@ -262,6 +262,26 @@ ok=$listener
 begun 'nobody answers any more: -x, of two' -x nosuch s
 kill -KILL "$ok"
 over 'nobody answers any more: -x, of two' 0 'wait: nosuch: No such file or directory'
+
+# With a time, a service that is not supervised is waited for: until it is, or the time is over.
+ended 'not supervised, with a time' 99 'wait: nosuch: not up in time
+wait: nosuch: No such file or directory' -t 0 nosuch
+ended 'not supervised, with a time, -d' 99 'wait: nosuch: not down in time
+wait: nosuch: No such file or directory' -d -t 1 nosuch
+begun 'supervised in time: -u' -t 100 s
+listen s
+ok=$listener
+over 'supervised in time: -u' 0 ''
+begun 'no longer supervised, and then again' -t 100 -d s
+kill -KILL "$ok"
+sleep 0.3
+is 'no longer supervised, and then again: it waits on' yes "$(kill -0 "$waiting" 2>/dev/null && echo yes)"
+status s "$label$none"00$down"00$phase_down"
+listen s
+ok=$listener
+over 'no longer supervised, and then again' 0 ''
+status s "$label$some"00$up"00$phase_up"
+kill -KILL "$ok"
 : >file
 ended 'a file in place of a folder' 102 'wait: file: supervise not running
 wait: file: Not a directory' file
@@ -396,8 +416,7 @@ begun 'web ends' -x web db
 over 'web ends' 0 ''
 ended 'web ends: -u' 102 'wait: web: supervise not running' web
 mv web db services
-until_true has_status services/web
-ended 'web comes again' 0 '' -t 100 services/web
+ended 'web comes again: at once' 0 '' -t 100 services/web
 begun 'svscan is killed' -d services/web
 kill -KILL "$svscan"
 over 'svscan is killed' 102 'wait: services/web: supervise not running'

@@ -15,8 +15,8 @@ use Rattle.cmd_wait.specs.Steps.{Step, Read, Sight, sight, IsOver}
 use Rattle.cmd_wait.specs.Watching.{Watched, watched, first_watch}
 use Rattle.cmd_wait.specs.Words.{Order, order, Asks, AskNothing}
 use Rattle.cmd_wait.specs.Rounds.{Look, TakesRound, FailsAt, Waits, looks_of, IsAmong, IsFound}
-use Rattle.cmd_wait.specs.declared.finding.Goal.{Goal}
-use Rattle.cmd_wait.specs.declared.finding.Goal.TheVariants as goal
+use Rattle.cmd_wait.specs.declared.finding.WaitState.{WaitState}
+use Rattle.cmd_wait.specs.declared.finding.WaitState.TheVariants as state
 use Rattle.cmd_wait.specs.declared.finding.WaitFault.{WaitFault}
 use Rattle.cmd_wait.specs.declared.options.Options.{Options}
 use Rattle.cmd_wait.specs.declared.finding.WaitFault.TheVariants as fault
@@ -43,10 +43,10 @@ fault_note fault.Unread = codes ": unable to read status" ++ 10 ∷ []
 fault_note (fault.Bad cause) = bad_note cause
 
 -- that the time is over, as it is reported after a service's folder
-abbrev pub over_note : Goal → List ℕ
-over_note goal.Up = codes ": not up in time" ++ 10 ∷ []
-over_note goal.Down = codes ": not down in time" ++ 10 ∷ []
-over_note goal.Unsupervised = codes ": still supervised" ++ 10 ∷ []
+abbrev pub over_note : WaitState → List ℕ
+over_note state.Up = codes ": not up in time" ++ 10 ∷ []
+over_note state.Down = codes ": not down in time" ++ 10 ∷ []
+over_note state.Unsupervised = codes ": still supervised" ++ 10 ∷ []
 
 -- what is reported about a service; and about a lack of memory
 abbrev pub report_of : (folder note : List ℕ) → List ℕ
@@ -56,8 +56,8 @@ abbrev pub memory_report : List ℕ
 memory_report = codes "wait: OutOfMemory" ++ 10 ∷ []
 
 -- It was reported about a service that the time is over.
-abbrev pub ReportsOver : Goal → (folder : List ℕ) (old new : Device) → Type 0
-ReportsOver goal folder old new = Reports old new (report_of folder (over_note goal))
+abbrev pub ReportsOver : WaitState → (folder : List ℕ) (old new : Device) → Type 0
+ReportsOver state folder old new = Reports old new (report_of folder (over_note state))
 
 -- the exit status for a service that can't be waited for
 abbrev pub fault_status : WaitFault → ℕ
@@ -87,7 +87,7 @@ pub record RunsOut (order : Order) (begin : ℕ) (services : List (List ℕ)) (s
   pub some : left ≢ []
   pub over : IsOver order.limit begin now
   pub status_is : status ≡ 99
-  pub reported : InTurn (ReportsOver order.goal) left old.faults new.faults
+  pub reported : InTurn (ReportsOver order.goal.state) left old.faults new.faults
 
 -- A look found a service that can't be waited for. It is reported why, with the status for that, and no service after
 -- it is looked at.

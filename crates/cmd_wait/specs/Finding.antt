@@ -15,7 +15,8 @@ use Rattle.cmd_svc.specs.Line.{is_running}
 use Rattle.cmd_svc.specs.declared.services.Unreached.{Unreached}
 use Rattle.cmd_svc.specs.declared.services.Unreached.TheVariants.{NotRunning, Denied, Unanswered}
 use Rattle.cmd_wait.specs.declared.finding.Goal.{Goal}
-use Rattle.cmd_wait.specs.declared.finding.Goal.TheVariants as goal
+use Rattle.cmd_wait.specs.declared.finding.WaitState.{WaitState}
+use Rattle.cmd_wait.specs.declared.finding.WaitState.TheVariants as state
 use Rattle.cmd_wait.specs.declared.finding.Finding.{Finding}
 use Rattle.cmd_wait.specs.declared.finding.Finding.TheVariants.{Reached, Waiting, Failed}
 use Rattle.cmd_wait.specs.declared.finding.WaitFault.TheVariants as fault
@@ -46,8 +47,8 @@ has_lasted None = false
 has_lasted (Some age) = nat_le 200 age
 
 -- the process whose age is asked for, if the service should be up and its record says that it is
-abbrev pub process_asked : Goal → Result Loaded RecordFault → Option ℕ
-process_asked goal.Up (Ok loaded) = if is_up loaded then Some (status_in loaded).pid else None
+abbrev pub process_asked : WaitState → Result Loaded RecordFault → Option ℕ
+process_asked state.Up (Ok loaded) = if is_up loaded then Some (status_in loaded).pid else None
 process_asked other read = None
 
 -- The results of the calls of a look. The service did not respond, for this reason; or its status could not be read. Or
@@ -68,39 +69,46 @@ calls_of_look goal folder (Absent why) = Reached folder (Some why) ∷ []
 calls_of_look goal folder Unread = Reached folder None ∷ ReadStatus folder None ∷ []
 calls_of_look goal folder (Shown bytes age) =
     (Reached folder None ∷ ReadStatus folder (Some bytes) ∷ [])
-    ++ calls_of_age (process_asked goal (loaded_from bytes)) age
+    ++ calls_of_age (process_asked goal.state (loaded_from bytes)) age
 
 abbrev pub reached_if : Bool → Finding
 reached_if reached = if reached then Reached else Waiting
 
--- A service that is not supervised is what `-x` waits for, and otherwise can't be waited for. One that is there and
--- takes no more connections is looked at again.
+-- A service that is not supervised is what `-x` waits for. Otherwise it is waited for until it is supervised, or it can't
+-- be waited for.
+abbrev pub unsupervised_in : WaitState → (awaits_supervision : Bool) → Finding
+unsupervised_in state.Unsupervised awaits_supervision = Reached
+unsupervised_in other true = Waiting
+unsupervised_in other false = Failed fault.NotSupervised
+
+abbrev pub unsupervised_finding : Goal → Finding
+unsupervised_finding goal = unsupervised_in goal.state goal.awaits_supervision
+
+-- A service that is there and takes no more connections is looked at again.
 abbrev pub absent_finding : Goal → Unreached → Finding
-absent_finding goal.Unsupervised NotRunning = Reached
-absent_finding goal.Up NotRunning = Failed fault.NotSupervised
-absent_finding goal.Down NotRunning = Failed fault.NotSupervised
-absent_finding other Denied = Failed fault.Denied
-absent_finding other Unanswered = Waiting
+absent_finding goal NotRunning = unsupervised_finding goal
+absent_finding goal Denied = Failed fault.Denied
+absent_finding goal Unanswered = Waiting
 
 -- The status does not matter for whether it is supervised.
-abbrev pub unread_finding : Goal → Finding
-unread_finding goal.Unsupervised = Waiting
-unread_finding goal.Up = Failed fault.Unread
-unread_finding goal.Down = Failed fault.Unread
+abbrev pub unread_finding : WaitState → Finding
+unread_finding state.Unsupervised = Waiting
+unread_finding state.Up = Failed fault.Unread
+unread_finding state.Down = Failed fault.Unread
 
 -- A service is up if its record says so and its process has lived for two seconds. A service whose process ends sooner,
 -- and is restarted each time, is therefore never up.
-abbrev pub record_finding : Goal → Result Loaded RecordFault → (age : Option ℕ) → Finding
-record_finding goal.Unsupervised read age = Waiting
-record_finding goal.Up (Ok loaded) age = reached_if (is_up loaded && has_lasted age)
-record_finding goal.Up (Err cause) age = Failed (fault.Bad cause)
-record_finding goal.Down (Ok loaded) age = reached_if (is_down loaded)
-record_finding goal.Down (Err cause) age = Failed (fault.Bad cause)
+abbrev pub record_finding : WaitState → Result Loaded RecordFault → (age : Option ℕ) → Finding
+record_finding state.Unsupervised read age = Waiting
+record_finding state.Up (Ok loaded) age = reached_if (is_up loaded && has_lasted age)
+record_finding state.Up (Err cause) age = Failed (fault.Bad cause)
+record_finding state.Down (Ok loaded) age = reached_if (is_down loaded)
+record_finding state.Down (Err cause) age = Failed (fault.Bad cause)
 
 abbrev pub finding_of : Goal → Sighting → Finding
 finding_of goal (Absent why) = absent_finding goal why
-finding_of goal Unread = unread_finding goal
-finding_of goal (Shown bytes age) = record_finding goal (loaded_from bytes) age
+finding_of goal Unread = unread_finding goal.state
+finding_of goal (Shown bytes age) = record_finding goal.state (loaded_from bytes) age
 
 -- The service in a folder was looked at, once, and this was found.
 pub record Finds (goal : Goal) (folder : List ℕ) (finding : Finding) (old new : Option (List Call)) : Type 0 where
@@ -118,8 +126,10 @@ pub record SeesUp (sighting : Sighting) : Type 0 where
   pub is : loaded_from bytes ≡ Ok loaded
   pub up : is_up loaded ≡ true
   pub lasted : 200 ≤ age
-  pub asked : process_asked goal.Up (loaded_from bytes) ≡ Some (status_in loaded).pid
+  pub asked : process_asked state.Up (loaded_from bytes) ≡ Some (status_in loaded).pid
 
 -- Every look that finds a service up saw that.
 abbrev pub UpLasts : Type 0
-UpLasts = (sighting : Sighting) → finding_of goal.Up sighting ≡ Reached → SeesUp sighting
+UpLasts =
+    (goal : Goal) (sighting : Sighting) → goal.state ≡ state.Up → finding_of goal sighting ≡ Reached
+    → SeesUp sighting

@@ -2,10 +2,11 @@
 -- with or without a `--` after them. Words are lists of bytes.
 use Rattle.std.specs.Prelude.{◌≡◌, ◌≢◌, ℕ, ◌<◌, ◌^◌, if◌then◌else◌, List, [], ◌∷◌, codes, bytes_eq, decimal, Option}
 use Rattle.std.specs.Prelude.{Some}
-use Rattle.std.specs.Prelude.{None, is_some, unwrap_or, true, false}
+use Rattle.std.specs.Prelude.{None, is_some, unwrap_or, Bool, true, false}
 use Rattle.cmd_svc.specs.Words.{is_end, is_option}
 use Rattle.cmd_wait.specs.declared.finding.Goal.{Goal}
-use Rattle.cmd_wait.specs.declared.finding.Goal.TheVariants.{Up, Down, Unsupervised}
+use Rattle.cmd_wait.specs.declared.finding.WaitState.{WaitState}
+use Rattle.cmd_wait.specs.declared.finding.WaitState.TheVariants.{Up, Down, Unsupervised}
 
 -- What to wait for, for how many seconds at most, and for which services.
 pub record Order : Type 0 where
@@ -16,22 +17,25 @@ pub record Order : Type 0 where
 abbrev pub order : (goal : Goal) (limit : Option ℕ) (services : List (List ℕ)) → Order
 order goal limit services = record { goal = goal; limit = limit; services = services }
 
--- the goal that an option names
-abbrev pub goal_of : List ℕ → Option Goal
-goal_of word =
+abbrev pub goal : (state : WaitState) (awaits_supervision : Bool) → Goal
+goal state awaits_supervision = record { state = state; awaits_supervision = awaits_supervision }
+
+-- the state that an option names
+abbrev pub state_of : List ℕ → Option WaitState
+state_of word =
     if bytes_eq word (codes "-u") then Some Up
     else if bytes_eq word (codes "-d") then Some Down
     else if bytes_eq word (codes "-x") then Some Unsupervised
     else None
 
--- the goal that words begin with, and the words after it
-abbrev pub first_goal : List (List ℕ) → Option Goal
-first_goal [] = None
-first_goal (word ∷ words) = goal_of word
+-- the state that words begin with, and the words after it
+abbrev pub first_state : List (List ℕ) → Option WaitState
+first_state [] = None
+first_state (word ∷ words) = state_of word
 
-abbrev pub behind_goal : List (List ℕ) → List (List ℕ)
-behind_goal [] = []
-behind_goal (word ∷ words) = if is_some (goal_of word) then words else word ∷ words
+abbrev pub behind_state : List (List ℕ) → List (List ℕ)
+behind_state [] = []
+behind_state (word ∷ words) = if is_some (state_of word) then words else word ∷ words
 
 -- A word is the decimal text of a number of seconds below 2^32.
 pub record AreSeconds (word : List ℕ) (seconds : ℕ) : Type 0 where
@@ -56,18 +60,19 @@ abbrev pub services_of : List (List ℕ) → List (List ℕ)
 services_of [] = []
 services_of (word ∷ words) = if is_end word then words else if is_option word then [] else word ∷ words
 
--- the goal after the time, if there was none before it
-abbrev pub goal_in : List (List ℕ) → Option Goal
-goal_in words = if is_some (first_goal words) then first_goal words else first_goal (behind_limit words)
+-- the state after the time, if there was none before it
+abbrev pub state_in : List (List ℕ) → Option WaitState
+state_in words = if is_some (first_state words) then first_state words else first_state (behind_limit words)
 
 abbrev pub behind_options : List (List ℕ) → List (List ℕ)
 behind_options words =
-    if is_some (first_goal words) then behind_limit (behind_goal words) else behind_goal (behind_limit words)
+    if is_some (first_state words) then behind_limit (behind_state words) else behind_state (behind_limit words)
 
--- The words ask for this. If they name no goal, the goal is that services are up. They name at least one service.
+-- The words ask for this. If they name no state, services must be up. If they name a time, a
+-- service that is not supervised is waited for. They name at least one service.
 pub record Asks (words : List (List ℕ)) (order : Order) : Type 0 where
-  pub goal_is : order.goal ≡ unwrap_or (goal_in words) Up
-  pub limit_is : FirstLimit (behind_goal words) order.limit
+  pub goal_is : order.goal ≡ goal (unwrap_or (state_in words) Up) (is_some order.limit)
+  pub limit_is : FirstLimit (behind_state words) order.limit
   pub services_are : order.services ≡ services_of (behind_options words)
   pub some : order.services ≢ []
 

@@ -2,7 +2,7 @@
 ghost use Rattle.std.specs.Prelude.{◌≡◌};
 ghost use Rattle.tai_status.specs.Extended.{Extended};
 ghost use Rattle.cmd_wait.specs.Finding.{absent_finding, calls_of_age, has_lasted, is_down, is_up, process_asked};
-ghost use Rattle.cmd_wait.specs.Finding.{reached_if, record_finding, unread_finding, Finds};
+ghost use Rattle.cmd_wait.specs.Finding.{reached_if, record_finding, unread_finding, unsupervised_finding, Finds};
 
 use cmd_svc::{Services, Unreached};
 use tai_status::{Loaded, Phase, RecordFault, decode_front};
@@ -10,9 +10,9 @@ use tai_status::{Loaded, Phase, RecordFault, decode_front};
 /// The age, in hundredths of a second, from which the process of a service counts as up.
 const LASTING: u128 = 200;
 
-/// What is waited for.
+/// The state of a service that is waited for.
 #[derive(Clone, Copy, Debug, PartialEq, Eq)]
-pub enum Goal {
+pub enum WaitState {
     /// It is up and settled: a record of 20 bytes is in the phase `up`, or one of 18 bytes has a process. Also, this
     /// process lives, and has lived for two seconds.
     Up,
@@ -20,6 +20,14 @@ pub enum Goal {
     Down,
     /// It is no longer supervised.
     Unsupervised,
+}
+
+/// What is waited for.
+#[derive(Clone, Copy, Debug, PartialEq, Eq)]
+pub struct Goal {
+    pub state: WaitState,
+    /// Whether the wait goes on if a service is not supervised, until it is. If not, that is a fault.
+    pub awaits_supervision: bool,
 }
 
 /// Why a service can't be waited for.
@@ -46,26 +54,36 @@ pub enum Finding {
     Failed(WaitFault),
 }
 
+/// Returns what is found about a service that is not supervised.
+fn unsupervised_finding(goal: Goal) -> Finding
+    ensures { result ≡ unsupervised_finding goal }
+{
+    match (goal.state, goal.awaits_supervision) {
+        (WaitState::Unsupervised, _) => Finding::Reached,
+        (_, true) => Finding::Waiting,
+        (_, false) => Finding::Failed(WaitFault::NotSupervised),
+    }
+}
+
 /// Returns what is found about a service that was not reached. A service that is there and takes no more connections is
 /// looked at again.
 fn absent_finding(goal: Goal, why: Unreached) -> Finding
     ensures { result ≡ absent_finding goal why }
 {
-    match (why, goal) {
-        (Unreached::NotRunning, Goal::Unsupervised) => Finding::Reached,
-        (Unreached::NotRunning, _) => Finding::Failed(WaitFault::NotSupervised),
-        (Unreached::Denied, _) => Finding::Failed(WaitFault::Denied),
-        (Unreached::Unanswered, _) => Finding::Waiting,
+    match why {
+        Unreached::NotRunning => unsupervised_finding(goal),
+        Unreached::Denied => Finding::Failed(WaitFault::Denied),
+        Unreached::Unanswered => Finding::Waiting,
     }
 }
 
 /// Returns what is found about a service whose status can't be read.
-fn unread_finding(goal: Goal) -> Finding
-    ensures { result ≡ unread_finding goal }
+fn unread_finding(state: WaitState) -> Finding
+    ensures { result ≡ unread_finding state }
 {
-    match goal {
-        Goal::Unsupervised => Finding::Waiting,
-        Goal::Up | Goal::Down => Finding::Failed(WaitFault::Unread),
+    match state {
+        WaitState::Unsupervised => Finding::Waiting,
+        WaitState::Up | WaitState::Down => Finding::Failed(WaitFault::Unread),
     }
 }
 
@@ -117,11 +135,11 @@ fn has_lasted(age: Option<u128>) -> bool
 }
 
 /// Returns the process whose age is asked for. There is one if the service should be up and its record says that it is.
-fn process_asked(goal: Goal, read: &Result<Loaded, RecordFault>) -> Option<u32>
-    ensures { result ≡ process_asked goal read.now }
+fn process_asked(state: WaitState, read: &Result<Loaded, RecordFault>) -> Option<u32>
+    ensures { result ≡ process_asked state read.now }
 {
-    match (goal, read) {
-        (Goal::Up, Ok(loaded)) if is_up(loaded) => Some(loaded.view().pid),
+    match (state, read) {
+        (WaitState::Up, Ok(loaded)) if is_up(loaded) => Some(loaded.view().pid),
         _ => None,
     }
 }
@@ -129,25 +147,25 @@ fn process_asked(goal: Goal, read: &Result<Loaded, RecordFault>) -> Option<u32>
 /// Returns the age of that process, if there is one to ask about and it lives.
 fn age_asked<S: Services>(
     services: &mut S,
-    goal: Goal,
+    state: WaitState,
     read: &Result<Loaded, RecordFault>,
 ) -> Option<u128>
     ensures { Extended (S.calls services.old) (S.calls services.new)
-        (calls_of_age (process_asked goal read.now) result) }
+        (calls_of_age (process_asked state read.now) result) }
 {
-    services.age(process_asked(goal, read)?)
+    services.age(process_asked(state, read)?)
 }
 
 /// Returns what is found about a service, from what its status file says, and from the age of its process if that was
 /// asked for.
-fn record_finding(goal: Goal, read: &Result<Loaded, RecordFault>, age: Option<u128>) -> Finding
-    ensures { result ≡ record_finding goal read.now age }
+fn record_finding(state: WaitState, read: &Result<Loaded, RecordFault>, age: Option<u128>) -> Finding
+    ensures { result ≡ record_finding state read.now age }
 {
-    match (goal, read) {
-        (Goal::Unsupervised, _) => Finding::Waiting,
+    match (state, read) {
+        (WaitState::Unsupervised, _) => Finding::Waiting,
         (_, Err(fault)) => Finding::Failed(WaitFault::Bad(*fault)),
-        (Goal::Up, Ok(loaded)) => reached_if(is_up(loaded) && has_lasted(age)),
-        (Goal::Down, Ok(loaded)) => reached_if(is_down(loaded)),
+        (WaitState::Up, Ok(loaded)) => reached_if(is_up(loaded) && has_lasted(age)),
+        (WaitState::Down, Ok(loaded)) => reached_if(is_down(loaded)),
     }
 }
 
@@ -160,9 +178,9 @@ pub(crate) fn look<S: Services>(services: &mut S, goal: Goal, folder: &str) -> F
         return absent_finding(goal, why);
     }
     let Ok(front) = services.read_status(folder) else {
-        return unread_finding(goal);
+        return unread_finding(goal.state);
     };
     let read = decode_front(front.as_slice());
-    let age = age_asked(services, goal, &read);
-    record_finding(goal, &read, age)
+    let age = age_asked(services, goal.state, &read);
+    record_finding(goal.state, &read, age)
 }

@@ -13,7 +13,7 @@ mod sayings;
 mod wait;
 mod watch;
 
-pub use finding::{Finding, Goal, WaitFault};
+pub use finding::{Finding, Goal, WaitFault, WaitState};
 pub use laws::no_crash_loop_is_up;
 pub use options::{Options, read_options};
 pub use pace::{Pace, SystemPace};

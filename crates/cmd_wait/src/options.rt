@@ -1,11 +1,11 @@
 //! The words of `wait`.
 ghost use Rattle.std.specs.Prelude.{◌≡◌, ⊤, ℕ, Option, MatchOption, IfSome, unwrap_or};
 ghost use Rattle.cmd_svc.specs.Words.{texts};
-ghost use Rattle.cmd_wait.specs.Words.{behind_goal, behind_limit, behind_options, first_goal, goal_in, goal_of};
+ghost use Rattle.cmd_wait.specs.Words.{behind_state, behind_limit, behind_options, first_state, state_in, state_of};
 ghost use Rattle.cmd_wait.specs.Words.{order, services_of};
 ghost use Rattle.cmd_wait.specs.Words.{AreSeconds, AskNothing, Asks, FirstLimit};
 
-use crate::finding::Goal;
+use crate::finding::{Goal, WaitState};
 use cmd_svc::is_option;
 use sup_core::read_number;
 
@@ -18,34 +18,34 @@ pub struct Options<'a> {
     pub services: &'a [&'a str],
 }
 
-/// Returns the goal that an option names.
-fn goal_of(word: &str) -> Option<Goal>
-    ensures { result ≡ goal_of word.now }
+/// Returns the state that an option names.
+fn state_of(word: &str) -> Option<WaitState>
+    ensures { result ≡ state_of word.now }
 {
     match word {
-        "-u" => Some(Goal::Up),
-        "-d" => Some(Goal::Down),
-        "-x" => Some(Goal::Unsupervised),
+        "-u" => Some(WaitState::Up),
+        "-d" => Some(WaitState::Down),
+        "-x" => Some(WaitState::Unsupervised),
         _ => None,
     }
 }
 
-/// Returns the goal that words begin with.
-fn first_goal(words: &[&str]) -> Option<Goal>
-    ensures { result ≡ first_goal (texts words.now) }
+/// Returns the state that words begin with.
+fn first_state(words: &[&str]) -> Option<WaitState>
+    ensures { result ≡ first_state (texts words.now) }
 {
     match words {
-        [word, ..] => goal_of(word),
+        [word, ..] => state_of(word),
         [] => None,
     }
 }
 
-/// Returns the words after the goal that they begin with.
-fn behind_goal<'a>(words: &'a [&'a str]) -> &'a [&'a str]
-    ensures { texts result.now ≡ behind_goal (texts words.entry.now) }
+/// Returns the words after the state that they begin with.
+fn behind_state<'a>(words: &'a [&'a str]) -> &'a [&'a str]
+    ensures { texts result.now ≡ behind_state (texts words.entry.now) }
 {
     match words {
-        [word, rest @ ..] if goal_of(word).is_some() => rest,
+        [word, rest @ ..] if state_of(word).is_some() => rest,
         _ => words,
     }
 }
@@ -103,8 +103,11 @@ pub fn read_options<'a>(words: &'a [&'a str]) -> Option<Options<'a>>
     ensures asks { IfSome result (λ options.
         Asks (texts words.entry.now) (order options.goal options.limit (texts options.services.now))) }
 {
-    let limit = first_limit(behind_goal(words))?;
-    let goal = goal_in(words);
+    let limit = first_limit(behind_state(words))?;
+    let goal = Goal {
+        state: state_in(words),
+        awaits_supervision: limit.is_some(),
+    };
     let services = services_of(behind_options(words));
     if services.is_empty() {
         return None;
@@ -116,13 +119,13 @@ pub fn read_options<'a>(words: &'a [&'a str]) -> Option<Options<'a>>
     })
 }
 
-/// Returns the goal that words name. If they name none, the goal is that services are up.
-fn goal_in(words: &[&str]) -> Goal
-    ensures { result ≡ unwrap_or (goal_in (texts words.now)) Goal.Up }
+/// Returns the state that words name. If they name none, it is that services are up.
+fn state_in(words: &[&str]) -> WaitState
+    ensures { result ≡ unwrap_or (state_in (texts words.now)) WaitState.Up }
 {
-    match first_goal(words) {
-        Some(goal) => goal,
-        None => first_goal(behind_limit(words)).unwrap_or(Goal::Up),
+    match first_state(words) {
+        Some(state) => state,
+        None => first_state(behind_limit(words)).unwrap_or(WaitState::Up),
     }
 }
 
@@ -130,8 +133,8 @@ fn goal_in(words: &[&str]) -> Goal
 fn behind_options<'a>(words: &'a [&'a str]) -> &'a [&'a str]
     ensures { texts result.now ≡ behind_options (texts words.entry.now) }
 {
-    match first_goal(words) {
-        Some(_) => behind_limit(behind_goal(words)),
-        None => behind_goal(behind_limit(words)),
+    match first_state(words) {
+        Some(_) => behind_limit(behind_state(words)),
+        None => behind_state(behind_limit(words)),
     }
 }

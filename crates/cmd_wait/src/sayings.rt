@@ -5,7 +5,7 @@ ghost use Rattle.cmd_svc.specs.Words.{texts};
 ghost use Rattle.tai_status.specs.Counted.{Reports};
 ghost use Rattle.cmd_wait.specs.Ends.{bad_note, fault_note, fault_status, over_note, report_of, ReportsOver};
 
-use crate::finding::{Goal, WaitFault};
+use crate::finding::{WaitFault, WaitState};
 use crate::rounds::Failure;
 use cmd_base::{DONE, TROUBLE, report_parts};
 use std::io::Write;
@@ -67,21 +67,21 @@ pub(crate) fn report_failure<E: Write>(failure: &Failure<'_>, faults: &mut Outpu
 }
 
 /// Returns that the time is over, as it is reported after a service's folder.
-fn over_note(goal: Goal) -> &'static [u8]
-    ensures { result.now ≡ over_note goal }
+fn over_note(state: WaitState) -> &'static [u8]
+    ensures { result.now ≡ over_note state }
 {
-    match goal {
-        Goal::Up => b": not up in time\n",
-        Goal::Down => b": not down in time\n",
-        Goal::Unsupervised => b": still supervised\n",
+    match state {
+        WaitState::Up => b": not up in time\n",
+        WaitState::Down => b": not down in time\n",
+        WaitState::Unsupervised => b": still supervised\n",
     }
 }
 
 /// Reports that the time is over, one line for each of these services.
-pub(crate) fn report_over<E: Write>(goal: Goal, left: &[&str], faults: &mut Output<E>)
-    ensures { InTurn (ReportsOver goal) (texts left.now) faults.old faults.new }
+pub(crate) fn report_over<E: Write>(state: WaitState, left: &[&str], faults: &mut Output<E>)
+    ensures { InTurn (ReportsOver state) (texts left.now) faults.old faults.new }
 {
     for folder in left {
-        report_parts(faults, b"wait: ", folder.as_bytes(), over_note(goal), DONE);
+        report_parts(faults, b"wait: ", folder.as_bytes(), over_note(state), DONE);
     }
 }

@@ -42,7 +42,7 @@ fn wait_for<R: Wait, S: Services, P: Pace, A: Allocator, E: Write>(
             return DONE;
         }
         if is_over(options.limit, begin, now) {
-            report_over(options.goal, &left, faults);
+            report_over(options.goal.state, &left, faults);
             return OVER;
         }
         pause(services, pace, &mut watch, options.limit, begin, &left);
@@ -82,7 +82,7 @@ fn wait_and_tell<R: Wait, S: Services, P: Pace, A: Allocator, E: Write>(
 ///
 /// - 0;
 /// - 99 if the time is over, with a line on `faults` for each service that is left;
-/// - 102 if a service is not supervised, or no longer supervised;
+/// - 102 if a service is not supervised, or no longer supervised; not with `-t`, which waits until it is;
 /// - 111 if this user may not look at a service, if a status can't be read or is not a record, and for a lack of
 ///   memory;
 /// - 100 for wrong words: the usage is reported, and nothing is asked.

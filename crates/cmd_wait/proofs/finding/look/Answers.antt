@@ -20,19 +20,19 @@ returns g c =
     let aged = g.S.Services.calls c.age_asked-age.new.services in
     let folder = c.args.folder.now in
     let bytes = c.in-Ok.front.items in
-    let goal = c.args.goal in
+    let state = c.args.goal.state in
     let is = c.decode_front-read.ensures.read ∙ ap loaded_from c.as_slice.ensures.value in
     let first : Extended past asked (Reached folder None ∷ []) = search rules in
     let second : Extended asked read (ReadStatus folder (Some bytes) ∷ []) = search rules in
-    let third : Extended read aged (calls_of_age (process_asked goal (loaded_from bytes)) c.age_asked-age.result) =
+    let third : Extended read aged (calls_of_age (process_asked state (loaded_from bytes)) c.age_asked-age.result) =
     subst (λ (r : Result Loaded RecordFault).
-    Extended read aged (calls_of_age (process_asked goal r) c.age_asked-age.result))
+    Extended read aged (calls_of_age (process_asked state r) c.age_asked-age.result))
     is c.age_asked-age.ensures in record {
       sighting = Shown bytes c.age_asked-age.result;
       is = c.record_finding.ensures
-          ∙ ap (λ (r : Result Loaded RecordFault). record_finding goal r c.age_asked-age.result) is;
+          ∙ ap (λ (r : Result Loaded RecordFault). record_finding state r c.age_asked-age.result) is;
       calls = extended-then past read aged (Reached folder None ∷ ReadStatus folder (Some bytes) ∷ [])
-          (calls_of_age (process_asked goal (loaded_from bytes)) c.age_asked-age.result)
+          (calls_of_age (process_asked state (loaded_from bytes)) c.age_asked-age.result)
           (extended-then past asked read (Reached folder None ∷ []) (ReadStatus folder (Some bytes) ∷ []) first second)
           third;
     }

@@ -20,12 +20,12 @@ loop-folder-preserved g c =
     let new = c.report_parts.new.faults in
     let folder = now (get_or left i nowhere) in
     let text : c.as_bytes.result.now ≡ folder = search rules in
-    let note : c.over_note.result.now ≡ over_note c.args.goal = search rules in
-    let reported : Reports middle new (report_of folder (over_note c.args.goal)) =
+    let note : c.over_note.result.now ≡ over_note c.args.state = search rules in
+    let reported : Reports middle new (report_of folder (over_note c.args.state)) =
     subst (λ (bytes : List ℕ). Reports middle new (report_of folder bytes)) note
     (subst (λ (bytes : List ℕ). Reports middle new (report_of bytes c.over_note.result.now)) text
     c.report_parts.ensures.reported) in
-    subst (λ (done : List (List ℕ)). InTurn (ReportsOver c.args.goal) done old new)
+    subst (λ (done : List (List ℕ)). InTurn (ReportsOver c.args.state) done old new)
     (sym (taken-one now left i nowhere within))
-    (in_turn-then (ReportsOver c.args.goal) (map now (take i left)) folder old middle new c.loop-folder.invariant
+    (in_turn-then (ReportsOver c.args.state) (map now (take i left)) folder old middle new c.loop-folder.invariant
     reported)

@@ -6,4 +6,4 @@ use Rattle.cmd_wait.proofs.sayings.report_over.Given as goal
 
 -- the services so far are reported
 abbrev pub invariant-loop-folder : goal.invariant-loop-folder
-invariant-loop-folder g l = InTurn (ReportsOver l.goal) (texts (take l.folder-index l.left)) l.fn.faults l.faults
+invariant-loop-folder g l = InTurn (ReportsOver l.state) (texts (take l.folder-index l.left)) l.fn.faults l.faults

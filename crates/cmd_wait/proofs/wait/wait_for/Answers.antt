@@ -94,10 +94,10 @@ returns-then-is_over g c =
     let some : length items ≡ 0 → ⊥ = search rules in
     let over : IsOver o.limit c.now-begin.result c.now-now.result = search rules in
     let all : c.deref.result.now ≡ items = search rules in
-    let reported : InTurn (ReportsOver o.goal) (texts items) c.args.faults.now c.report_over.new.faults =
-    subst (λ (d : Device). InTurn (ReportsOver o.goal) (texts items) d c.report_over.new.faults) c.loop.invariant.1
+    let reported : InTurn (ReportsOver o.goal.state) (texts items) c.args.faults.now c.report_over.new.faults =
+    subst (λ (d : Device). InTurn (ReportsOver o.goal.state) (texts items) d c.report_over.new.faults) c.loop.invariant.1
     (subst (λ (left : List (Bor (List ℕ))).
-    InTurn (ReportsOver o.goal) (texts left) c.loop.faults c.report_over.new.faults) all c.report_over.ensures) in
+    InTurn (ReportsOver o.goal.state) (texts left) c.loop.faults c.report_over.new.faults) all c.report_over.ensures) in
     way-ends o c.now-begin.result 99 (sight (calls c.args.services.now) (steps c.args.pace.now))
     (watched c.loop.watch (sight (calls c.loop.services) (steps c.loop.pace)))
     (texts c.loop.left.items) c.args.faults.now
