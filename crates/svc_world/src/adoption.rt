@@ -17,7 +17,7 @@ const LOOK_SECONDS: u64 = 1;
 /// Every look whose number is a multiple of this also checks whether a process has ended and waits for its parent.
 const ENDS_EVERY: u64 = 2;
 
-/// Stands for an inode number of a process's folder in /proc that is not known. No folder has this number.
+/// Stands for the inode number of a process's folder in /proc while that is not known. No folder has this number.
 const UNKNOWN: u64 = 0;
 
 /// An adopted process, and the notifier that its service waits for.
