@@ -15,7 +15,7 @@ use Rattle.svc_host.specs.Rounds.{HostState, IsScanned}
 use Rattle.host_law.specs.Alike.{part_of}
 use Rattle.host_law.specs.Whole.{AreApart, Follows, StandsFor, ids_of}
 
--- what is to be shown of a scan
+-- what must be shown about a scan
 abbrev pub ScansFollow : Type 0 → Type 0
 ScansFollow A =
     (suite : SuiteState) (rows : List Row) (label : Tai64n) (out : HostOut) (old new : HostState)

@@ -28,7 +28,7 @@ pub fn host_is_of_a_suite<A: Allocator, M: Maker + Drop, R: Runtime>(host: &Host
     host.has_run();
 }
 
-/// A whole run of a host is a run of each suite that stands for it.
+/// States that a whole run of a host is a run of each suite that stands for it.
 pub fn runs_are_of_suites<A: Allocator>()
     ensures { RunsAreOfSuites A }
 {}
