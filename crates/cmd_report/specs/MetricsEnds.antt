@@ -1,4 +1,4 @@
--- How `svstat --metrics` ends: all services are looked at, and then all is written.
+-- How `svstat --metrics` ends: all services are looked at, and then everything is written.
 use Rattle.std.specs.Prelude.{◌≡◌, ◌⊎◌, ℕ, List, [], ◌∷◌, ◌++◌, codes, map, Option, Some}
 use Rattle.std.specs.Prelude.{None}
 use Rattle.tai_status.specs.Counted.{Device, Fails, Reports, Works, Wrote, WroteFront}

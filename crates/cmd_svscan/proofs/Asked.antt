@@ -1,4 +1,4 @@
--- What the maker is asked, one call after the other.
+-- What is asked of the maker, one call after the other.
 use Rattle.std.proofs.Common.{List, ◌++◌, ◌∙◌}
 use Rattle.svc_house.proofs.Extended.{extended-append}
 use Rattle.svc_host.specs.Calls.{Call}

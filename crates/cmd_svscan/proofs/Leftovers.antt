@@ -27,11 +27,11 @@ taken-more [] old middle new one so_far counts =
 taken-more (first ∷ rest) old middle new one so_far counts =
     (so_far.0, so_far.1, taken-more rest so_far.0 middle new one so_far.2 counts)
 
--- A part of this name is there.
+-- The host has a part with this id.
 abbrev pub IsSomewhere : List HostPart → PartId → Type 0
 IsSomewhere parts id = IsNowhere id parts → ⊥
 
--- The parts that run are there.
+-- The host has the parts that run.
 pub running-somewhere : (parts : List HostPart) → All (IsSomewhere parts) (running_ids parts)
 running-somewhere [] = All-nil (IsSomewhere [])
 running-somewhere (part ∷ parts) =
@@ -48,7 +48,7 @@ running-somewhere (part ∷ parts) =
           (λ nowhere. All-head (λ (other : HostPart). other.id ≢ part.id) part parts nowhere refl) rest
     ]
 
--- A part that is nowhere was nowhere.
+-- A part that the host does not have was not there before.
 was-nowhere : (id : PartId) (old new : List HostPart) → AreHeard old new → IsNowhere id new → IsNowhere id old
 was-nowhere id [] new heard nowhere = All-nil (λ (part : HostPart). part.id ≢ id)
 was-nowhere id (part ∷ parts) [] heard nowhere = absurd heard
@@ -57,14 +57,14 @@ was-nowhere id (part ∷ parts) (other ∷ others) heard nowhere =
     (λ same. All-head (λ (one : HostPart). one.id ≢ id) other others nowhere (heard.0.goes_on.id ∙ same))
     (was-nowhere id parts others heard.1 (All-tail (λ (one : HostPart). one.id ≢ id) other others nowhere))
 
--- Parts that were there are there.
+-- The host still has the parts that it had.
 pub still-somewhere : (ids : List PartId) (old new : List HostPart) → AreHeard old new → All (IsSomewhere old) ids
     → All (IsSomewhere new) ids
 still-somewhere ids old new heard were =
     All-weaker (IsSomewhere old) (IsSomewhere new) (λ id is nowhere. is (was-nowhere id old new heard nowhere)) ids
     were
 
--- those so far that count begin all of them
+-- those counted so far are the first of all of them
 pub counted-so-far : {A B : Type 0} (f : A → B) (p : A → Bool) (xs : List A) (k : ℕ) (ys : List B)
     → ys ≡ map f (filter p (take k xs)) → IsPrefix ys (map f (filter p xs))
 counted-so-far f p xs k ys is = (

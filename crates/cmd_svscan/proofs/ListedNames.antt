@@ -39,7 +39,7 @@ module _ {E F : Type 0} where
 pub count-up : (n most : ℕ) → min (min n most + 1) most ≡ min (n + 1) most
 count-up n most = omega arith
 
--- those so far begin all of them
+-- those so far are the first of all of them
 pub so-far : {A B : Type 0} (f : A → B) (xs : List A) (k : ℕ) (ys : List B) → ys ≡ map f (take k xs)
     → IsPrefix ys (map f xs)
 so-far f xs k ys is = (

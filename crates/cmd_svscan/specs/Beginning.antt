@@ -11,19 +11,19 @@ use Rattle.svc_host.specs.Calls.{ServedOwn}
 use Rattle.cmd_svscan.specs.Asking.{IsAsked, own_path}
 use Rattle.cmd_svscan.specs.Serving.{Serving}
 
--- what is said of svscan itself, if it is not served
+-- what is said about svscan itself if it is not served
 abbrev pub unserved : OwnFault → Begun
 unserved (Unopened folder.Locked) = Locked
 unserved (Unopened (folder.NotOpened cause)) = Unserved cause
 unserved (NotAdmitted cause) = Unserved cause
 
--- The maker was asked to serve svscan in its folder, or there was no memory to ask, and no more was done.
+-- The maker was asked to serve svscan in its folder, or there was no memory to ask, and nothing more was done.
 pub record Begins (folder : List ℕ) (old new : Serving) : Type 0 where
   pub asked : (new.host ≡ old.host)
       ⊎ ((is_served : Bool) × IsAsked (ServedOwn (own_path folder) is_served ∷ []) old.host new.host)
   pub quiet : new.quiet ≡ old.quiet
 
--- svscan ends, since the folder can't be read, or no service could be kept running.
+-- svscan exits, because the folder can't be read, or no service could be kept running.
 abbrev pub IsRefused : Begun → Type 0
 IsRefused Served = ⊥
 IsRefused (Unserved cause) = ⊥
@@ -31,7 +31,7 @@ IsRefused Locked = ⊥
 IsRefused (Unread cause) = ⊤
 IsRefused (Refused cause) = ⊤
 
--- svscan was to be served by a host, if there is one.
+-- A host was to serve svscan, if there is one.
 abbrev pub BeginsIf : (folder : List ℕ) → (old : Option Serving) → Begun → (new : Option Serving) → Type 0
 BeginsIf folder None begun None = IsRefused begun
 BeginsIf folder (Some old) begun (Some new) = Begins folder old new
@@ -44,13 +44,13 @@ pub record IsNew (serving : Serving) : Type 0 where
   pub quiet : serving.quiet ≡ fresh
   pub given : serving.given ≡ []
 
--- A host was made where there was none, or could not be. A host that was there is as it was.
+-- A host was made if there was none, or it could not be made. A host that was there is unchanged.
 abbrev pub Opens : (old new : Option Serving) → Type 0
 Opens None None = ⊤
 Opens None (Some new) = IsNew new
 Opens (Some old) new = new ≡ Some old
 
--- svscan was to be served, after a host was made, if there was none.
+-- svscan was to be served, after a host was made if there was none.
 pub record OpensAndBegins (folder : List ℕ) (old : Option Serving) (begun : Begun) (new : Option Serving) : Type 0 where
   pub opened : Option Serving
   pub opens : Opens old opened

@@ -11,7 +11,7 @@ use Rattle.svscan_rounds.specs.declared.service_set.Unlogged.{Unlogged}
 use Rattle.cmd_svscan.specs.Asking.{IsAsked}
 use Rattle.cmd_svscan.specs.Leftovers.{FindsFirstUnlogged, FindsRemaining}
 
--- To each part was posted what is next for it, and these parts came of it, and then the next ones of those.
+-- The next step was posted to each part, with these parts as the result, and so on for the next ones.
 abbrev pub EndsAlong : List (List HostPart) → (old new : List HostPart) → Type 0
 EndsAlong [] old new = new ≡ old
 EndsAlong (next ∷ steps) old new = EndsAll old next × EndsAlong steps next new
@@ -19,7 +19,7 @@ EndsAlong (next ∷ steps) old new = EndsAll old next × EndsAlong steps next ne
 abbrev pub EndInTurn : (old new : List HostPart) → Type 0
 EndInTurn old new = (steps : List (List HostPart)) × EndsAlong steps old new
 
--- The end of all services went on, by one step at least.
+-- The end of all services continued, by at least one step.
 pub record GoesOnEnding (old new : List HostPart) : Type 0 where
   pub before : List HostPart
   pub earlier : EndInTurn old before
@@ -29,14 +29,14 @@ pub record GoesOnEnding (old new : List HostPart) : Type 0 where
 abbrev pub FindsStill : (old : HostState) → List Remaining → (new : HostState) → Type 0
 FindsStill old left new = FindsRemaining old left new ⊎ (left ≡ [])
 
--- The end of all services went on. No part runs then, or those that do were looked for.
+-- The end of all services continued. After that no part runs, or those that do were looked for.
 abbrev pub Ends : (old : HostState) → Option (List Remaining) → (new : HostState) → Type 0
 Ends old None new = GoesOnEnding old.parts new.parts × (count_running new.parts ≡ 0)
 Ends old (Some left) new =
     (ended : HostState) × GoesOnEnding old.parts ended.parts × FindsStill ended left new
 
--- The services were left: their outputs were to end, what was not logged was found, then the threads of what ended were
--- joined, traces were kept, and svscan itself is served no more.
+-- The services were left. Their outputs were asked to end, and what was not logged was found. Then the threads of the
+-- parts that ended were joined, and traces were kept. svscan itself is no longer served.
 pub record Leaves (old : HostState) (unlogged : List Unlogged) (new : HostState) : Type 0 where
   pub some : List Unlogged
   pub before : HostState

@@ -13,14 +13,14 @@ use Rattle.svscan_rounds.specs.declared.service_set.Unfinished.TheVariants.{Byte
 use Rattle.svscan_rounds.specs.declared.service_set.Unlogged.{Unlogged}
 use Rattle.cmd_svscan.specs.Losses.{name_at, shown_name}
 
--- what was read of a part
+-- what was read of a part: its id and its status
 abbrev pub Reading : Type 0
 Reading = PartId × Status
 
 abbrev pub part_of : Reading → PartId
 part_of reading = reading.0
 
--- the processes of parts, by what was read of each: name and number
+-- the processes of parts, from what was read of each: name and number
 abbrev pub remaining_in : List SlotState → List Reading → List Remaining
 remaining_in slots read =
     map (λ (reading : Reading). record { name = shown_name slots reading.0; pid = reading.1.pid })
@@ -39,30 +39,30 @@ pub record FindsRemaining (old : HostState) (left : List Remaining) (new : HostS
   pub readings : AreRead read old.parts new.parts
   pub left_are : left ≡ remaining_in old.table.slots read
 
--- the slot of a pair, and how many bytes did not reach its logger
+-- the slot of a pair, and how many of its bytes did not reach its logger
 abbrev pub Lost : Type 0
 Lost = ℕ × ℕ
 
--- the service by name, and how many bytes
+-- the service with its name, and how many bytes
 abbrev pub unlogged_of : List SlotState → Lost → Unlogged
 unlogged_of slots one = record { name = name_at slots one.0; what = Bytes one.1 }
 
--- the bytes that were not logged, by the services that lost any
+-- the bytes that were not logged, for the services that lost any
 abbrev pub unlogged_in : List SlotState → List Lost → List Unlogged
 unlogged_in slots lost = map (unlogged_of slots) (filter (λ (one : Lost). nat_lt 0 one.1) lost)
 
--- These pairs were taken, one after the other, and of each was counted what it lost.
+-- These pairs were taken, one after the other, and what each lost was counted.
 abbrev pub AreTaken : List Lost → (old new : HostState) → Type 0
 AreTaken [] old new = new ≡ old
 AreTaken (one ∷ rest) old new =
     (middle : HostState) × CountsLost one.0 one.1 old middle × AreTaken rest middle new
 
--- Pairs were taken, and these bytes were found not to be logged.
+-- Pairs were taken, and these bytes were found that were not logged.
 pub record FindsUnlogged (old : HostState) (unlogged : List Unlogged) (new : HostState) : Type 0 where
   pub lost : List Lost
   pub taken : AreTaken lost old new
   pub unlogged_are : unlogged ≡ unlogged_in old.table.slots lost
 
--- The first of them, as many as there was memory for.
+-- The first of these were found, as many as there was memory for.
 abbrev pub FindsFirstUnlogged : (old : HostState) (some : List Unlogged) (new : HostState) → Type 0
 FindsFirstUnlogged old some new = (all : List Unlogged) × FindsUnlogged old all new × IsPrefix some all

@@ -17,13 +17,13 @@ count_unread [] = 0
 count_unread (Ok entry ∷ items) = count_unread items
 count_unread (Err fault ∷ items) = count_unread items + 1
 
--- An entry that could be read, or whose name is no text.
+-- The entry could be read, or its name is not text.
 abbrev pub IsListed : {E : Type 0} → Result E Error → Type 0
 IsListed (Ok entry) = ⊤
 IsListed (Err fault) = error_kind fault ≡ InvalidFilename
 
--- All entries came. These are the names of those that could be read, in order, and so many others have a name that is
--- no text, or more where that is the greatest count.
+-- All entries came. These are the names of those that could be read, in order. This many others have a name that is not
+-- text, or more if that is the greatest count.
 pub record Lists {S E : Type 0} (steps : S → Option (Result E Error) → S → Type 0) (name_of : E → List ℕ) (s : S)
     (names : List (List ℕ)) (unnamed : ℕ) : Type 0 where
   pub items : List (Result E Error)
@@ -32,7 +32,7 @@ pub record Lists {S E : Type 0} (steps : S → Option (Result E Error) → S →
   pub names_are : names ≡ map name_of (read_of items)
   pub unnamed_are : unnamed ≡ min (count_unread items) (2 ^ 64 - 1)
 
--- Why names are not listed: memory is wanted, or an entry can't be read, the first of which says this fault.
+-- Why names are not listed: there is no memory; or an entry can't be read, and the first such entry has this fault.
 abbrev pub IsWhyUnlisted : {S E : Type 0} (steps : S → Option (Result E Error) → S → Type 0) (s : S) (fault : Error)
     → Type 0
 IsWhyUnlisted {S = S} {E = E} steps s fault =

@@ -36,7 +36,7 @@ pub record AreRowsOf (names : List (List ℕ)) (rows : List Row) : Type 0 where
   pub order : AreInOrder (map (λ (row : Row). row.name) rows)
   pub each : IsPermutation names (map (λ (row : Row). row.name) rows)
 
--- the rows of an answer
+-- the rows in a result
 abbrev pub rows_in : {A E : Type 0} → Result (Vec Row A) E → Result (List Row) E
 rows_in (Ok rows) = Ok rows.items
 rows_in (Err fault) = Err fault
@@ -45,22 +45,23 @@ abbrev pub rows_listed : {E : Type 0} → Result Listing E → Result (List Row)
 rows_listed (Ok listing) = Ok listing.rows.items
 rows_listed (Err fault) = Err fault
 
--- A scan has need of rows of these names, and it was noted whether of any. The rows were made, or could not be.
+-- A scan needs the rows of some of these names, and it was noted whether there are any. The rows were made, or could
+-- not be made.
 pub record HasNeed (slots : List SlotState) (names : List (List ℕ)) (old : Quiet) (answer : Result (List Row) ListFault)
     (new : Quiet) : Type 0 where
   pub rows : IfOk answer (AreRowsOf (needed slots names))
   pub noted : new ≡ listed old (has_some (needed slots names))
 
--- The rows that a scan needs of these names: none in an idle round. At want of memory it is not noted of which names a
--- scan has need.
+-- The rows of these names that a scan needs: none in an idle round. If there is no memory, it is not noted which names
+-- a scan needs.
 abbrev pub FindsRows : List SlotState → (names : List (List ℕ)) → (old : Quiet) → Result (List Row) ListFault
     → (new : Quiet) → Type 0
 FindsRows slots names old answer new =
     MatchBool old.is_idle ((answer ≡ Ok []) × (new ≡ old))
     (((answer ≡ Err list.OutOfMemory) × (new ≡ old)) ⊎ HasNeed slots names old answer new)
 
--- The folder was looked at, which has these names: it had them before, or not. Then the maker was asked whether a part
--- waits to be heard.
+-- The folder with these names was looked at: it had them before, or not. Then the maker was asked whether a part waits
+-- to be admitted to the door.
 pub record HasLooked (old : HostState) (old_quiet : Quiet) (answer : Result (List Row) ListFault) (new : HostState)
     (new_quiet : Quiet) : Type 0 where
   pub has_names : Bool
@@ -83,7 +84,7 @@ pub record Lists (old : HostState) (old_quiet : Quiet) (answer : Result Listing 
   pub host : IsUpToDate (is_quiet (read old_quiet activity)) old updated
   pub looks : Looks updated (read old_quiet activity) (rows_listed answer) new new_quiet
 
--- A shortage is reported of the first listing alone.
+-- A shortage is reported only for the first listing.
 abbrev pub IsFirstShortage : (is_first : Bool) → List Row → Option Shortage → Type 0
 IsFirstShortage is_first rows answer =
     MatchBool is_first ((allowed : ℕ) × (answer ≡ shortage rows allowed)) (answer ≡ None)

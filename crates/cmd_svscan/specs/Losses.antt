@@ -1,4 +1,4 @@
--- What a round finds of the ends of parts, and of those that could not be made.
+-- What a round finds about parts that ended, and about those that could not be made.
 use Rattle.std.specs.Prelude.{ℕ, nat_lt, List, [], map}
 use Rattle.std.specs.List.{filter}
 use Rattle.std.specs.Option.{option_map_or}
@@ -11,15 +11,15 @@ use Rattle.svc_maker.specs.Making.{part_name}
 use Rattle.svscan_rounds.specs.declared.service_set.Unmade.{Unmade}
 use Rattle.svscan_rounds.specs.declared.service_set.Untaken.{Untaken}
 
--- the name of the service in a slot, where there is one
+-- the name of the service in a slot, if there is one
 abbrev pub name_at : List SlotState → (slot : ℕ) → List ℕ
 name_at slots slot = option_map_or name_of (slot_at slots slot) []
 
--- the name by which a part is shown: that of the service in its slot, of a logger with `/log` behind it
+-- the name by which messages show a part: that of the service in its slot, for a logger followed by `/log`
 abbrev pub shown_name : List SlotState → PartId → List ℕ
 shown_name slots id = part_name (name_at slots id.slot) id.role
 
--- the control bytes that were not taken, by the parts that ended so
+-- the control bytes that parts which ended did not take
 abbrev pub untaken_in : List SlotState → List (PartId × Loss) → List Untaken
 untaken_in slots losses =
     map (λ (lost : PartId × Loss). record { name = shown_name slots lost.0; count = lost.1.untaken })

@@ -1,4 +1,4 @@
--- What is done at each request, and what is replied.
+-- What is done for each request, and the reply.
 use Rattle.std.specs.Prelude.{◌≡◌, ℕ, List, [], Option, Some, None, Result, Err, option_map, string_bytes}
 use Rattle.scan_table.specs.Slots.{Row}
 use Rattle.scan_table.specs.declared.fault.ScanFault.{ScanFault}
@@ -21,15 +21,15 @@ use Rattle.cmd_svscan.specs.declared.folder_services.Request.TheVariants as requ
 use Rattle.cmd_svscan.specs.declared.folder_services.Reply.{Reply}
 use Rattle.cmd_svscan.specs.declared.folder_services.Reply.TheVariants as reply
 
--- What each does where there is a host. Where there is none, memory is wanted, nothing is heard, and nothing is left to
--- end.
+-- What each request does if there is a host. If there is none, memory is lacking, nothing is heard, and there is
+-- nothing left to end.
 
 abbrev pub ListsIf : (old : Option Serving) → Result Listing ListFault → (new : Option Serving) → Type 0
 ListsIf None answer None = answer ≡ Err list.OutOfMemory
 ListsIf (Some old) answer (Some new) = Lists old.host old.quiet answer new.host new.quiet
 ListsIf old answer new = ⊥
 
--- A folder was listed, after a host was made, if there was none.
+-- A folder was listed, after a host was made if there was none.
 pub record OpensAndLists (old : Option Serving) (answer : Result Listing ListFault) (new : Option Serving)
     : Type 0 where
   pub opened : Option Serving
@@ -57,7 +57,7 @@ LeavesIf None unlogged None = unlogged ≡ []
 LeavesIf (Some old) unlogged (Some new) = Leaves old.host unlogged new.host × (new.quiet ≡ old.quiet)
 LeavesIf old unlogged new = ⊥
 
--- This was done, and it has the reply of its kind.
+-- This was done, and the request has its own kind of reply.
 abbrev pub Serves : Request → Reply → (old new : Option Serving) → Type 0
 Serves (request.Begin folder) (reply.Begun begun) old new = OpensAndBegins (string_bytes folder) old begun new
 Serves (request.List folder) (reply.Rows answer) old new = OpensAndLists old answer new
@@ -68,13 +68,13 @@ Serves request.End (reply.Ended left) old new = EndsIf old (option_map (λ some.
 Serves request.Leave (reply.Left unlogged) old new = LeavesIf old unlogged.items new
 Serves request reply old new = ⊥
 
--- Something is served so that the request has this reply.
+-- Something is served in such a way that the request has this reply.
 pub record IsReplyTo (request : Request) (reply : Reply) : Type 0 where
   pub old : Option Serving
   pub new : Option Serving
   pub serves : Serves request reply old new
 
--- What has this for its calls' results has such a reply to each request.
+-- A function with these results replies to each request in such a way.
 abbrev pub RepliesAsServed : {F : Type 0} → (post : F → Request → Reply → Type 0) → Type 0
 RepliesAsServed {F = F} post =
     (state : F) (request : Request) (reply : Reply) → post state request reply → IsReplyTo request reply

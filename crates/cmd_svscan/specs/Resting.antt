@@ -3,12 +3,12 @@ use Rattle.std.specs.Prelude.{◌≡◌, ℕ, List, [], ◌∷◌, Option}
 use Rattle.svc_host.specs.Rounds.{AreCollected, HostState}
 use Rattle.cmd_svscan.specs.Serving.{IsNextByte, Serving}
 
--- Threads were joined, and this host came of it, and then the next one of that.
+-- Threads were joined, with this host as the result, and so on for the next one.
 abbrev pub CollectsAlong : List HostState → (old new : HostState) → Type 0
 CollectsAlong [] old new = new ≡ old
 CollectsAlong (next ∷ hosts) old new = AreCollected old next × CollectsAlong hosts next new
 
--- Threads were joined, a number of times, and nothing else happened to the host.
+-- Threads were joined, some number of times, and nothing else happened to the host.
 abbrev pub AreCollectedInTurn : (old new : HostState) → Type 0
 AreCollectedInTurn old new = (hosts : List HostState) × CollectsAlong hosts old new
 

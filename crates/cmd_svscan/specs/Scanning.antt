@@ -18,21 +18,22 @@ use Rattle.svscan_rounds.specs.declared.service_set.Unmade.{Unmade}
 use Rattle.cmd_svscan.specs.Asking.{IsAsked, Prepares}
 use Rattle.cmd_svscan.specs.Losses.{unmade_in, untaken_in, untraced_in}
 
--- In a round nothing was lost or refused, and nothing could not be made.
+-- In the round nothing was lost or refused, and there was nothing that could not be made.
 pub record DidNothing (out : RoundOut) : Type 0 where
   pub untaken : out.untaken.items ≡ []
   pub untraced : out.untraced ≡ []
   pub unmade : out.unmade.items ≡ []
   pub refused : out.refused ≡ []
 
--- Parts that could not be made are named, and then others that could not be admitted: as many as there was memory for.
+-- The parts that could not be made are named, and after them those that could not be admitted: as many as there was
+-- memory for.
 pub record NamesUnmade (slots : List SlotState) (failed : List host.Unmade) (named : List Unmade) : Type 0 where
   pub refusals : List host.Unmade
   pub first : IsPrefix named (unmade_in slots (failed ++ refusals))
 
--- A scan was made of these rows, after the maker was asked what a scan needs. Then it was asked to admit the parts that
--- wait, and which it could not. What parts had lost before the scan is reported whole, and then forgotten; and so are the
--- names that it refuses, and the parts that could not be made.
+-- The maker was asked for what a scan needs, and then a scan was made of these rows. After it, the maker was asked to
+-- admit the parts that wait, and which it could not admit. What parts had lost before the scan is reported completely,
+-- and then forgotten. The names that the scan refuses, and the parts that could not be made, are reported too.
 pub record HasScanned (folder : List ℕ) (old : HostState) (rows : List Row) (out : RoundOut) (new : HostState)
     : Type 0 where
   pub before : HostState
@@ -48,8 +49,8 @@ pub record HasScanned (folder : List ℕ) (old : HostState) (rows : List Row) (o
   pub refused : out.refused ≡ found.scan.refused
   pub unmade : NamesUnmade new.table.slots found.failed.items out.unmade.items
 
--- A scan was refused: nothing started, restarted or was dropped, and what parts lost is still known. Memory was wanted,
--- or the table says why.
+-- A scan was refused: nothing was started, restarted or dropped, and what parts lost is still known. Memory was
+-- lacking, or the table says why.
 pub record HasNotScanned (folder : List ℕ) (old : HostState) (rows : List Row) (fault : ScanFault) (new : HostState)
     : Type 0 where
   pub prepared : (new ≡ old) ⊎ ((is_set : Bool) × Prepares folder rows is_set old new)

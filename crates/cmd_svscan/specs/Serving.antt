@@ -1,4 +1,4 @@
--- What svscan serves: the host of the services, when its next round is idle, and what its own inbox gave.
+-- What svscan serves: the host of the services, when its next round is idle, and what its own inbox has given.
 use Rattle.std.specs.Prelude.{◌≡◌, ℕ, List, [], ◌++◌, Option, None, Some}
 use Rattle.svc_host.specs.Rounds.{HostState}
 use Rattle.svc_house.specs.Calls.{as_list}
@@ -17,6 +17,6 @@ abbrev pub given_by : {A : Type 0} → Option (MailInbox A) → List ℕ
 given_by None = []
 given_by (Some inbox) = items_of (taken_by inbox.receiver)
 
--- The byte is the next one that an inbox gave, or it had none.
+-- The byte is the next one from an inbox, or the inbox had none.
 abbrev pub IsNextByte : (old : List ℕ) → Option ℕ → (new : List ℕ) → Type 0
 IsNextByte old byte new = new ≡ old ++ as_list byte

@@ -1,4 +1,4 @@
-//! What the maker of svscan's host is asked, call by call.
+//! What is asked of the maker of svscan's host, call by call.
 ghost use Rattle.std.specs.Prelude.{[], ◌∷◌, string_bytes};
 ghost use Rattle.std.specs.Result.{is_ok};
 ghost use Rattle.svc_host.specs.Calls.{AdmittedAll, Allowed, AskedRefusals, AskedWaits, LeftOwn, Prepared, ServedOwn};
@@ -11,7 +11,7 @@ use svc_host::{Host, Runtime, Unmade};
 use svc_house::ControlSender;
 use svc_maker::{FolderHolder, OwnFault};
 
-/// The folders of services are in this folder from now on, or there is no memory for that.
+/// Looks for the folders of services in this folder from now on. A fault means that there is no memory for that.
 pub(crate) fn set_folder<M, R>(host: &mut Host<M, R>, folder: &str) -> Result<(), AllocError>
 where
     M: FolderHolder + Drop,
@@ -21,7 +21,7 @@ where
     host.ask_maker(|maker| maker.set_folder(folder))
 }
 
-/// So many descriptors are allowed from now on.
+/// Allows this many descriptors from now on.
 pub(crate) fn allow<M, R>(host: &mut Host<M, R>, descriptors: u64)
 where
     M: FolderHolder + Drop,
@@ -31,7 +31,7 @@ where
     host.ask_maker(|maker| maker.set_allowed(descriptors));
 }
 
-/// What the outputs of these rows lack is made.
+/// Makes what the outputs of these rows lack.
 pub(crate) fn prepare_outputs<M, R>(host: &mut Host<M, R>, rows: &[DirRow])
 where
     M: FolderHolder + Drop,
@@ -41,7 +41,7 @@ where
     host.ask_maker(|maker| maker.prepare(rows));
 }
 
-/// The parts that wait for it are admitted to the door.
+/// Admits the parts that wait for it to the door.
 pub(crate) fn admit_all<M, R>(host: &mut Host<M, R>)
 where
     M: FolderHolder + Drop,
@@ -51,7 +51,7 @@ where
     host.ask_maker(|maker| maker.admit_all());
 }
 
-/// The parts that could not be admitted, and why.
+/// Returns the parts that could not be admitted, and why.
 pub(crate) fn refusals<M, R>(host: &mut Host<M, R>) -> Vec<Unmade>
 where
     M: FolderHolder + Drop,
@@ -61,7 +61,7 @@ where
     host.ask_maker(|maker| maker.refusals())
 }
 
-/// Whether a part waits to be admitted.
+/// Returns whether a part waits to be admitted.
 pub(crate) fn any_waits<M, R>(host: &mut Host<M, R>) -> bool
 where
     M: FolderHolder + Drop,
@@ -71,7 +71,7 @@ where
     host.ask_maker(|maker| maker.any_waits())
 }
 
-/// svscan itself is served in the folder at a path, with this status record, or why not.
+/// Serves svscan itself in the folder at a path, with this status record. A fault says why it is not served.
 pub(crate) fn serve_own<M, R>(
     host: &mut Host<M, R>,
     path: String,
@@ -86,7 +86,7 @@ where
     host.ask_maker(|maker| maker.serve_own(path, record, sender))
 }
 
-/// svscan itself is served no more, and has this status record.
+/// Stops serving svscan itself, and writes this status record for it.
 pub(crate) fn leave_own<M, R>(host: &mut Host<M, R>, record: &[u8; 20])
 where
     M: FolderHolder + Drop,

@@ -1,4 +1,4 @@
-//! The beginning of svscan: its host is made, and svscan itself is served.
+//! How svscan begins: its host is made, and svscan itself is served.
 ghost use Rattle.std.specs.Prelude.{◌≡◌, None, OnErr};
 ghost use Rattle.cmd_svscan.specs.Beginning.{Begins, BeginsIf, Opens, OpensAndBegins, unserved};
 
@@ -16,7 +16,7 @@ use svc_world::FolderFault;
 use svscan_rounds::Begun;
 use tai_status::Cause;
 
-/// What is said of svscan itself, if it is not served.
+/// Returns what is said about svscan itself if it is not served.
 fn unserved(fault: OwnFault) -> Begun
     ensures { result ≡ unserved fault }
 {
@@ -27,7 +27,7 @@ fn unserved(fault: OwnFault) -> Begun
     }
 }
 
-/// Has svscan itself served in a folder. Its control bytes come to its inbox from then on.
+/// Serves svscan itself in a folder. Its control bytes come to its inbox from then on.
 fn begin<M, R>(
     rt: R,
     files: HostRuntime,
@@ -56,7 +56,7 @@ where
     }
 }
 
-/// Makes the host, if there is none, or says why it can't be made.
+/// Makes the host, if there is none. A fault says why it can't be made.
 pub(crate) fn open<R>(
     rt: R,
     files: HostRuntime,
@@ -75,13 +75,13 @@ where
     Ok(())
 }
 
-/// Whether the folder of the services can be read, or why not.
+/// Checks that the folder of the services can be read. A fault says why it can't.
 fn read_folder<R: Files>(rt: &R, alloc: Global, folder: &str) -> Result<(), Cause> {
     drop(fs::read_dir(&(rt, &alloc), folder)?);
     Ok(())
 }
 
-/// Has svscan itself served in a folder that can be read, if there is a host.
+/// Serves svscan itself in a folder that can be read, if there is a host.
 fn try_begin<M, R>(
     rt: R,
     files: HostRuntime,
@@ -103,8 +103,8 @@ where
     }
 }
 
-/// Has svscan itself served in a folder, after the host is made, if there is none. If it can't be made svscan is
-/// refused, and why.
+/// Makes the host, if there is none, and then serves svscan itself in a folder. If the host can't be made, returns
+/// `Refused` with the reason.
 pub(crate) fn open_and_begin<R>(
     rt: R,
     files: HostRuntime,

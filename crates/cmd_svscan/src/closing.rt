@@ -1,4 +1,4 @@
-//! The end of all services, and that they are left.
+//! How all services end, and how svscan leaves them.
 ghost use Rattle.std.specs.Prelude.{◌≡◌, option_map, true};
 ghost use Rattle.svc_host.specs.Parts.{count_running};
 ghost use Rattle.cmd_svscan.specs.Closing.{Ends, FindsStill, GoesOnEnding, Leaves};
@@ -15,10 +15,11 @@ use svc_host::{Host, Maker, Runtime};
 use svc_maker::FolderHolder;
 use svscan_rounds::{Remaining, Unlogged, rest_left};
 
-/// How many milliseconds it rests between two steps of the end.
+/// The milliseconds between two steps of the end.
 const STEP_MILLIS: u64 = 20;
 
-/// Goes on with the end of all services until all have ended, or for as long as a rest. Whether all have ended.
+/// Continues the end of all services until all have ended, at most for the length of a rest. Returns whether all have
+/// ended.
 fn end_in_steps<M, R>(rt: &R, host: &mut Host<M, R>) -> bool
 where
     M: Maker + Drop,
@@ -39,7 +40,7 @@ where
     unreachable!()
 }
 
-/// The processes that still run, or none if there is no memory for the list.
+/// Returns the processes that still run, or none if there is no memory for the list.
 fn still_running<M, R>(alloc: Global, host: &mut Host<M, R>) -> Vec<Remaining>
 where
     M: Maker + Drop,
@@ -52,7 +53,7 @@ where
     }
 }
 
-/// Goes on with the end of all services, for as long as a rest. None: all have ended.
+/// Continues the end of all services, for the length of a rest. Returns None if all have ended.
 pub(crate) fn end<M, R>(rt: R, alloc: Global, host: &mut Host<M, R>) -> Option<Vec<Remaining>>
 where
     M: Maker + Drop,
@@ -65,7 +66,8 @@ where
     Some(still_running(alloc, host))
 }
 
-/// Has all outputs end, until svscan may leave them and no part owes what it could not write, or for as long as a rest.
+/// Lets all outputs end, until svscan may leave them and no part owes what it could not write, at most for the length
+/// of a rest.
 fn end_outputs<M, R>(rt: &R, host: &mut Host<M, R>)
 where
     M: Maker + Drop,
@@ -83,7 +85,7 @@ where
     unreachable!()
 }
 
-/// What did not reach the loggers, by services: or as much as there is memory for.
+/// Returns what did not reach the loggers, for each service, as far as there is memory for it.
 fn unlogged_as_far<M, R>(rt: &R, alloc: Global, host: &mut Host<M, R>) -> Vec<Unlogged>
 where
     M: Maker + Drop,
@@ -96,8 +98,8 @@ where
     }
 }
 
-/// The services are left, once what was read of their outputs is with their loggers and their records are written, or
-/// five seconds are over.
+/// Leaves the services, once what was read of their outputs is with their loggers and their records are written, or
+/// once five seconds are over.
 pub(crate) fn leave<M, R>(rt: R, alloc: Global, host: &mut Host<M, R>) -> Vec<Unlogged>
 where
     M: FolderHolder + Drop,

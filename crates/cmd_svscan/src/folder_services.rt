@@ -1,4 +1,4 @@
-//! The services of a folder of this system, which it keeps running.
+//! The services of a folder of this system, which are kept running.
 ghost use Rattle.std.specs.Prelude.{◌≡◌, option_map};
 ghost use Rattle.cmd_svscan.specs.Requests.{EndsIf, HearsIf, LeavesIf, ListsIf, OpensAndLists, RoundsIf};
 ghost use Rattle.cmd_svscan.specs.Requests.{Serves};
@@ -22,41 +22,41 @@ use svscan_rounds::{
 };
 use tai_status::Cause;
 
-/// What the services of a folder are asked for.
+/// What can be requested for the services of a folder.
 #[derive(Drop)]
 pub enum Request {
-    /// That svscan itself is served in a folder.
+    /// To serve svscan itself in a folder.
     Begin(String),
-    /// What a folder has.
+    /// To list a folder.
     List(String),
-    /// One round over these rows of a folder.
+    /// To make one round over these rows of a folder.
     Round { folder: String, rows: Vec<DirRow> },
-    /// The next control byte of svscan's own, before the next round is due.
+    /// To wait for the next of svscan's own control bytes, until the next round is due.
     Hear,
-    /// The end of all services.
+    /// To end all services.
     End,
-    /// That the services are left.
+    /// To leave the services.
     Leave,
 }
 
-/// What came of a request: each has a reply of its kind (specs/Requests).
+/// The result of a request: each request has its own kind of reply (specs/Requests).
 #[derive(Drop)]
 pub enum Reply {
-    /// To `Begin`.
+    /// The reply to `Begin`.
     Begun(Begun),
-    /// To `List`.
+    /// The reply to `List`.
     Rows(Result<Listing, ListFault>),
-    /// To `Round`.
+    /// The reply to `Round`.
     Round(Result<RoundOut, ScanFault>),
-    /// To `Hear`.
+    /// The reply to `Hear`.
     Heard(Option<u8>),
-    /// To `End`.
+    /// The reply to `End`.
     Ended(Option<Vec<Remaining>>),
-    /// To `Leave`.
+    /// The reply to `Leave`.
     Left(Vec<Unlogged>),
 }
 
-/// The next control byte of svscan's own, or none once the next round is due.
+/// Returns the next of svscan's own control bytes, or None once the next round is due.
 fn hear_or_sleep<M: Maker + Drop, R: Runtime>(
     rt: R,
     running: &mut Option<Running<M, R>>,
@@ -72,7 +72,7 @@ fn hear_or_sleep<M: Maker + Drop, R: Runtime>(
     }
 }
 
-/// Goes on with the end of all services, where there is a host.
+/// Continues the end of all services, if there is a host.
 fn try_end<M: Maker + Drop, R: Runtime>(
     rt: R,
     alloc: Global,
@@ -86,7 +86,7 @@ fn try_end<M: Maker + Drop, R: Runtime>(
     }
 }
 
-/// The services are left, where there is a host.
+/// Leaves the services, if there is a host.
 fn try_leave<M: FolderHolder + Drop, R: Runtime>(
     rt: R,
     alloc: Global,
@@ -100,7 +100,7 @@ fn try_leave<M: FolderHolder + Drop, R: Runtime>(
     }
 }
 
-/// What a folder has, where there is a host.
+/// Lists a folder, if there is a host.
 fn try_list<M, R>(
     rt: &R,
     alloc: Global,
@@ -118,7 +118,7 @@ where
     }
 }
 
-/// What a folder has, after the host is made, if there is none.
+/// Makes the host, if there is none, and then lists a folder.
 fn open_and_list<R>(
     rt: R,
     files: HostRuntime,
@@ -135,7 +135,7 @@ where
     try_list(&rt, alloc, running, folder)
 }
 
-/// One round over these rows of a folder, where there is a host.
+/// Makes one round over these rows of a folder, if there is a host.
 fn try_round<M: FolderHolder + Drop, R: Runtime>(
     rt: R,
     alloc: Global,
@@ -151,8 +151,8 @@ fn try_round<M: FolderHolder + Drop, R: Runtime>(
     }
 }
 
-/// Does what is requested. The host is made at the beginning, if it can be, and else at the first listing for which it
-/// can be, since there may be no memory to begin.
+/// Does what is requested. The host is made at the beginning, if it can be. Otherwise it is made at the first listing
+/// at which it can be, since memory may be lacking at the beginning.
 pub fn handle<R>(
     rt: R,
     files: HostRuntime,
@@ -181,10 +181,10 @@ where
     }
 }
 
-/// Keeps the services of a folder of this system running, by requests to what has their host. It reports contracts
+/// Keeps the services of a folder of this system running, by requests to whatever has their host. It shows contracts
 /// nothing of its calls.
 ///
-/// That is a function, and not the host itself, since a trait's method can't make threads here.
+/// That is a function, not the host itself, because a trait's method can't make threads here.
 #[derive(Drop)]
 pub struct FolderServices<F: FnMut(Request) -> Reply + Drop> {
     alloc: Global,
@@ -192,8 +192,8 @@ pub struct FolderServices<F: FnMut(Request) -> Reply + Drop> {
 }
 
 impl<F: FnMut(Request) -> Reply + Drop> FolderServices<F> {
-    /// What keeps services running by requests to this, which may always be called, and has to each request a reply of
-    /// something that is served.
+    /// Makes the value that keeps services running by requests to this function. The function may always be called, and
+    /// each of its replies is the reply of something that is served.
     pub fn new(alloc: Global, handle: F) -> FolderServices<F>
         ensures { result.handle ≡ handle }
     {
@@ -204,7 +204,7 @@ impl<F: FnMut(Request) -> Reply + Drop> FolderServices<F> {
 impl<F: FnMut(Request) -> Reply + Drop> ServiceSet for FolderServices<F> {
     ghost use Rattle.cmd_svscan.specs.Requests.{RepliesAsServed};
 
-    // It may always be called, and its replies are those of something that is served.
+    // The function may always be called, and its replies are those of something that is served.
     ghost ready = { λ services. F.IsAlwaysCallable services.handle × RepliesAsServed F.post };
 
     fn begin(&mut self, folder: &str) -> Begun {

@@ -2,10 +2,10 @@
 //! apart.
 //!
 //! Its rounds are those of `svscan_rounds`, over a [`ServiceSet`], which is what svscan does to the system.
-//! [`FolderServices`] is the system's own, over the host of the services' threads; [`list_names`] and [`list_rows`] are
-//! the system's own listing.
+//! [`FolderServices`] is the system's own set, over the host of the services' threads. [`list_names`] and [`list_rows`]
+//! are the system's own listing.
 //!
-//! What no contract here says, and is only tested: that the system's listing finds what the folder holds.
+//! One thing is in no contract here, and is only tested: that the system's listing finds what the folder holds.
 #![tactic(auto)]
 
 mod asking;

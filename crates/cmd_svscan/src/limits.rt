@@ -2,7 +2,7 @@
 use libc::types::rlimit;
 use libc::{RLIMIT_NOFILE, getrlimit};
 
-/// How many descriptors this process may have open.
+/// Returns how many descriptors this process may have open.
 pub(crate) fn allowed_descriptors() -> u64 {
     let mut limit = rlimit {
         rlim_cur: 0,

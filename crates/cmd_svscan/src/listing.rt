@@ -1,4 +1,4 @@
-//! The system's own listing of a folder. Contracts see nothing of what stands there: that is shown by tests.
+//! The system's own listing of a folder. Contracts see nothing of what is there; tests show that.
 ghost use Rattle.std.specs.Prelude.{◌≡◌, map, string_bytes, IfOk, IfErr};
 ghost use Rattle.std.specs.Fs.{dir_entry_name};
 ghost use Rattle.std.specs.Iterator.{IsFinite};
@@ -13,7 +13,7 @@ use std::{fs, io};
 use svscan_rounds::{Folder, FolderState, ListFault, is_unchanged, kept_state, rows_of};
 use tai_status::{Cause, Label};
 
-/// A folder on this system, by its path.
+/// A folder on this system, reached by its path.
 #[derive(Drop)]
 struct SystemFolder<'a, R: Files> {
     rt: &'a R,
@@ -22,7 +22,7 @@ struct SystemFolder<'a, R: Files> {
 }
 
 impl<'a, R: Files> SystemFolder<'a, R> {
-    // The path of what is behind a name.
+    // Returns the path of a name followed by this rest.
     fn path_of(&self, name: &str, rest: &str) -> Result<String, AllocError> {
         let mut path = String::from_str(self.alloc, self.path)?;
         path.push('/')?;
@@ -32,7 +32,7 @@ impl<'a, R: Files> SystemFolder<'a, R> {
     }
 }
 
-/// Links are followed, so a dead one is no directory. What can't be looked at is not there.
+/// Links are followed, so that a dangling one is not a directory. What can't be looked at is not there.
 impl<'a, R: Files> Folder for SystemFolder<'a, R> {
     fn is_there(&self, name: &str, rest: &str) -> Result<bool, AllocError> {
         let path = self.path_of(name, rest)?;
@@ -55,18 +55,18 @@ fn fault_of(fault: &io::Error) -> ListFault {
     }
 }
 
-/// The names in a folder on this system, as it was when it was listed.
+/// The names in a folder on this system, as they were when it was listed.
 #[derive(Drop)]
 pub struct FolderNames {
     /// Those that are text.
     pub names: Vec<String>,
-    /// How many others it has.
+    /// The number of its other names.
     pub unnamed: u64,
-    // None where it may have changed unnoticed since.
+    // None if the folder may have changed unnoticed since.
     state: Option<FolderState>,
 }
 
-/// The state of the folder at a path, where it can be reported.
+/// Returns the state of the folder at a path, if it can be found.
 fn state_of<R: Files>(rt: &R, path: &str) -> Option<FolderState> {
     let found = fs::metadata(rt, path).ok()?;
     let seconds = u64::try_from(found.mtime()).ok()?;
@@ -78,8 +78,8 @@ fn state_of<R: Files>(rt: &R, path: &str) -> Option<FolderState> {
     })
 }
 
-/// The names of entries, in order, and how many others have a name that is no text. The first entry that can't be read
-/// for another reason ends this with its fault.
+/// Returns the names of entries, in order, and how many others have a name that is not text. The first entry that can't
+/// be read for another reason ends this with its fault.
 fn names_in<R: Files + Drop, B: Allocator, I>(
     alloc: Global,
     entries: I,
@@ -106,7 +106,7 @@ where
     Ok((names, unnamed))
 }
 
-/// The names in the folder at a path. The folder has this state.
+/// Returns the names in the folder at a path. The folder has this state.
 fn read_names<R: Files>(
     rt: &R,
     alloc: Global,
@@ -121,14 +121,14 @@ fn read_names<R: Files>(
     })
 }
 
-/// The names in the folder at a path on this system, now.
+/// Returns the names that the folder at a path on this system has now.
 pub fn list_names<R: Files>(
     rt: &R,
     alloc: Global,
     path: &str,
     now: Label,
 ) -> Result<FolderNames, ListFault> {
-    // Before the names, so that a change meanwhile is seen the next time.
+    // This comes before the names are read, so that a change meanwhile is seen the next time.
     let state = kept_state(state_of(rt, path), now);
     match read_names(rt, alloc, path, state) {
         Ok(names) => Ok(names),
@@ -136,12 +136,13 @@ pub fn list_names<R: Files>(
     }
 }
 
-/// Whether the folder at a path has these names still.
+/// Returns whether the folder at a path still has these names.
 pub fn has_names<R: Files>(rt: &R, path: &str, names: &FolderNames) -> bool {
     is_unchanged(names.state, state_of(rt, path))
 }
 
-/// The rows of these names in a folder on this system, in the byte order of the names. Nothing else in it is looked at.
+/// Returns the rows of these names in a folder on this system, in the byte order of the names. Looks at nothing else in
+/// the folder.
 pub fn list_rows<R: Files>(
     rt: &R,
     alloc: Global,

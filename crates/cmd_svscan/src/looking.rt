@@ -17,8 +17,8 @@ use svc_maker::FolderHolder;
 use svscan_rounds::{ListFault, Listing, Quiet, Shortage, needed_names, shortage};
 use tai_status::TimeSource;
 
-/// Joins the threads of what ended, unless nothing has happened: what ends from now on is the next round's. Then the
-/// traces of what runs are kept.
+/// Joins the threads of the parts that ended, unless nothing has happened. Parts that end from now on are left to the
+/// next round. Then keeps the traces of what runs.
 fn bring_up_to_date<M, R>(host: &mut Host<M, R>, is_quiet: bool)
 where
     M: Maker + Drop,
@@ -29,7 +29,7 @@ where
     host.keep_traces();
 }
 
-/// Joins the threads of what ended, unless this is to be left out.
+/// Joins the threads of the parts that ended, unless this is to be left out.
 pub(crate) fn join_unless<M, R>(host: &mut Host<M, R>, is_left_out: bool)
 where
     M: Maker + Drop,
@@ -41,7 +41,7 @@ where
     }
 }
 
-/// The names of a folder, and whether it has them still.
+/// Returns the names of a folder, and whether these are the names it had before.
 fn names_now<R: Files + Clock + Copy>(
     rt: &R,
     alloc: Global,
@@ -58,7 +58,7 @@ fn names_now<R: Files + Clock + Copy>(
     }
 }
 
-/// The rows that a scan needs of these names, unless the round is idle. Whether it needs any is noted.
+/// Returns the rows of these names that a scan needs, unless the round is idle. Notes whether the scan needs any.
 fn rows_needed<M, R>(
     rt: &R,
     alloc: Global,
@@ -82,7 +82,7 @@ where
     list_rows(rt, alloc, folder, needed)
 }
 
-/// Whether there are too few descriptors for these rows, if they are of the first listing.
+/// Returns whether there are too few descriptors for these rows, if they come from the first listing.
 fn first_shortage(is_first: bool, rows: &[DirRow]) -> Option<Shortage>
     ensures { IsFirstShortage is_first rows.now result }
 {
@@ -93,8 +93,8 @@ fn first_shortage(is_first: bool, rows: &[DirRow]) -> Option<Shortage>
     }
 }
 
-/// Looks at the folder. If it did not change it is not listed again, and if nothing has happened to a service either
-/// since a scan had need of no row, and no part waits to be heard, the round is idle.
+/// Looks at the folder. If it has not changed, it is not listed again. If also nothing has happened to a service since
+/// a scan needed no row, and no part waits to be admitted to the door, the round is idle.
 fn look<M, R>(
     rt: &R,
     alloc: Global,
@@ -133,7 +133,7 @@ where
     }
 }
 
-/// What a folder has, after the threads of what ended are joined. A rest may begin.
+/// Lists a folder, after the threads of the parts that ended are joined. A rest may begin.
 pub(crate) fn list<M, R>(
     rt: &R,
     alloc: Global,
@@ -146,7 +146,7 @@ where
     ensures { Lists running.old.host running.old.quiet result running.new.host running.new.quiet }
 {
     running.rests_since = rt.monotonic().ok();
-    // Before what ended is joined, so that what ends meanwhile is seen the next time.
+    // This comes before threads are joined, so that whatever ends meanwhile is seen the next time.
     let activity = running.host.activity();
     running.quiet = running.quiet.read(activity);
     bring_up_to_date(&mut running.host, running.quiet.is_quiet());

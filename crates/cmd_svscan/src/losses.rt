@@ -1,4 +1,4 @@
-//! What a round finds of the ends of parts and of those that could not be made, and what svscan's own end finds.
+//! What a round finds about parts that ended and parts that could not be made, and what svscan's own end finds.
 ghost use Rattle.std.specs.Prelude.{◌≡◌, map, IfErr, IfOk};
 ghost use mathlib.Core.List.{IsPrefix};
 ghost use Rattle.svc_host.specs.Parts.{losses_in, running_ids};
@@ -13,7 +13,7 @@ use svc_maker::part_name;
 use svscan_rounds::{Remaining, Unfinished, Unlogged, Unmade, Untaken};
 use tai_status::{Name, Names, View};
 
-/// The name of the service in a slot: nothing, where there is none.
+/// Returns the name of the service in a slot. It is empty if there is none.
 fn name_at<M: Maker + Drop, R: Runtime>(host: &Host<M, R>, slot: u64) -> &str
     ensures { result.now ≡ name_at host.now.table.slots slot }
 {
@@ -23,7 +23,7 @@ fn name_at<M: Maker + Drop, R: Runtime>(host: &Host<M, R>, slot: u64) -> &str
     }
 }
 
-/// The name by which a part is shown.
+/// Returns the name by which messages show a part.
 fn shown_name<M: Maker + Drop, R: Runtime>(
     alloc: Global,
     host: &Host<M, R>,
@@ -34,7 +34,7 @@ fn shown_name<M: Maker + Drop, R: Runtime>(
     Ok(Name::new(part_name(alloc, name_at(host, part.slot), part.role)?))
 }
 
-/// The control bytes that were not taken, by the parts that ended so.
+/// Returns the control bytes that parts which ended did not take.
 fn untaken_in<M: Maker + Drop, R: Runtime>(
     alloc: Global,
     host: &Host<M, R>,
@@ -53,7 +53,7 @@ fn untaken_in<M: Maker + Drop, R: Runtime>(
     Ok(untaken)
 }
 
-/// The parts whose last trace was not kept.
+/// Returns the parts whose last trace was not kept.
 fn untraced_in<M: Maker + Drop, R: Runtime>(
     alloc: Global,
     host: &Host<M, R>,
@@ -70,8 +70,8 @@ fn untraced_in<M: Maker + Drop, R: Runtime>(
     Ok(Names::from_vec(untraced))
 }
 
-/// What was lost at the ends of parts and is not forgotten: the control bytes that were not taken, and the parts whose
-/// last trace was not kept.
+/// Returns what was lost when parts ended and is not forgotten: the control bytes that were not taken, and the parts
+/// whose last trace was not kept.
 pub(crate) fn losses_of<M: Maker + Drop, R: Runtime>(
     alloc: Global,
     host: &Host<M, R>,
@@ -87,7 +87,7 @@ pub(crate) fn losses_of<M: Maker + Drop, R: Runtime>(
     Ok((untaken, untraced))
 }
 
-/// A part that could not be made, by name.
+/// Returns a part that could not be made, with its name.
 fn unmade_of<M: Maker + Drop, R: Runtime>(
     alloc: Global,
     host: &Host<M, R>,
@@ -101,8 +101,8 @@ fn unmade_of<M: Maker + Drop, R: Runtime>(
     })
 }
 
-/// The parts that could not be made, by name: as many as there is memory for, since the next round makes them or fails
-/// again.
+/// Returns the parts that could not be made, with their names: as many as there is memory for, because the next round
+/// makes them or fails again.
 pub(crate) fn unmade_in<M: Maker + Drop, R: Runtime>(
     alloc: Global,
     host: &Host<M, R>,
@@ -123,7 +123,7 @@ pub(crate) fn unmade_in<M: Maker + Drop, R: Runtime>(
     all
 }
 
-/// The status of each part that runs, read one after the other.
+/// Reads the status of each part that runs, one after the other.
 fn statuses<M: Maker + Drop, R: Runtime>(
     alloc: Global,
     host: &mut Host<M, R>,
@@ -143,7 +143,7 @@ fn statuses<M: Maker + Drop, R: Runtime>(
     Ok(read)
 }
 
-/// The processes of parts, by what was read of each.
+/// Returns the processes of parts, from what was read of each.
 fn remaining_in<M: Maker + Drop, R: Runtime>(
     alloc: Global,
     host: &Host<M, R>,
@@ -162,7 +162,7 @@ fn remaining_in<M: Maker + Drop, R: Runtime>(
     Ok(left)
 }
 
-/// The processes of the parts that run.
+/// Returns the processes of the parts that run.
 pub(crate) fn remaining<M: Maker + Drop, R: Runtime>(
     alloc: Global,
     host: &mut Host<M, R>,
@@ -173,8 +173,8 @@ pub(crate) fn remaining<M: Maker + Drop, R: Runtime>(
     remaining_in(alloc, host, &read)
 }
 
-/// Of each pair its slot and how many bytes did not reach its logger, as the host reports them: of all, or of as many
-/// as there is memory for.
+/// Returns for each pair its slot and how many bytes did not reach its logger, as the host reports them: for all pairs,
+/// or for as many as there is memory for.
 fn take_all_lost<M: Maker + Drop, R: Runtime>(
     rt: &R,
     alloc: Global,
@@ -196,7 +196,7 @@ fn take_all_lost<M: Maker + Drop, R: Runtime>(
     all
 }
 
-/// What did not reach the loggers, by services: or as much as there is memory for.
+/// Returns what did not reach the loggers, for each service, as far as there is memory for it.
 fn unlogged_in<M: Maker + Drop, R: Runtime>(
     alloc: Global,
     host: &Host<M, R>,
@@ -223,7 +223,7 @@ fn unlogged_in<M: Maker + Drop, R: Runtime>(
     Ok(all)
 }
 
-/// What did not reach the loggers, by services: or as much as there is memory for.
+/// Returns what did not reach the loggers, for each service, as far as there is memory for it.
 pub(crate) fn unlogged<M: Maker + Drop, R: Runtime>(
     rt: &R,
     alloc: Global,

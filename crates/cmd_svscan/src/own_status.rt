@@ -1,4 +1,4 @@
-//! How svscan itself stands.
+//! The status of svscan itself.
 ghost use Rattle.std.specs.Prelude.{◌≡◌};
 ghost use Rattle.cmd_svscan.specs.OwnStatus.{own_status};
 
@@ -6,7 +6,7 @@ use cmd_base::SystemClock;
 use std::time::Clock;
 use tai_status::{Full, Label, Phase, TimeSource, View, Want, encode_full};
 
-/// How svscan itself stands since this moment, with a process of this number; 0: it is gone.
+/// Returns the status of svscan itself since this moment, with the process of this number; 0 means that it is gone.
 pub(crate) fn own_status(label: Label, pid: u32) -> Full
     ensures { result ≡ own_status label pid }
 {
@@ -24,7 +24,7 @@ pub(crate) fn own_status(label: Label, pid: u32) -> Full
     Full::new(view, phase, exiting).unwrap()
 }
 
-/// The status record of svscan itself, now, whose process has this number; 0: it is gone.
+/// Returns the status record of svscan itself as of now, with the process of this number; 0 means that it is gone.
 pub(crate) fn own_record<R: Clock + Drop>(rt: R, pid: u32) -> [u8; 20] {
     encode_full(&own_status(SystemClock::new(rt).now(), pid))
 }

@@ -10,12 +10,12 @@ use svc_host::{Host, Maker, Runtime};
 use svc_house::{Inbox, MailInbox};
 use svscan_rounds::{rest_left, whole_rest};
 
-/// The running clock, if it can be read.
+/// Returns the time of the running clock, if it can be read.
 pub(crate) fn running_clock<R: Clock>(rt: &R) -> Option<Duration> {
     rt.monotonic().ok()
 }
 
-/// The next control byte of svscan's own, where there is one.
+/// Returns the next of svscan's own control bytes, if there is one.
 fn next_byte<R: Wait>(rt: &R, inbox: &mut Option<MailInbox>) -> Option<u8>
     ensures { IsNextByte (given_by inbox.old) result (given_by inbox.new) }
 {
@@ -25,8 +25,8 @@ fn next_byte<R: Wait>(rt: &R, inbox: &mut Option<MailInbox>) -> Option<u8>
     }
 }
 
-/// Rests until a byte comes or the rest is over that began then, and sees to each part that ends meanwhile. What ends
-/// with the rest is the next round's.
+/// Rests until a byte comes, or the rest that began at `begin` is over. Meanwhile takes care of each part that ends.
+/// Parts that end together with the rest are left to the next round.
 fn hear_until_over<M, R>(
     rt: &R,
     host: &mut Host<M, R>,
@@ -53,7 +53,7 @@ where
     unreachable!()
 }
 
-/// Rests until a byte comes or the rest is over that began when the last round was.
+/// Rests until a byte comes, or the rest is over that began after the last round.
 pub(crate) fn hear<M, R>(rt: R, running: &mut Running<M, R>) -> Option<u8>
 where
     M: Maker + Drop,

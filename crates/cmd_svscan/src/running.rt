@@ -1,4 +1,4 @@
-//! The services of this system that run.
+//! The services of this system that are served.
 ghost use Rattle.std.specs.Prelude.{IfOk};
 ghost use Rattle.cmd_svscan.specs.Beginning.{IsNew};
 
@@ -17,21 +17,21 @@ use svc_maker::{FolderMaker, SystemParts};
 use svc_world::AdoptionWatch;
 use svscan_rounds::Quiet;
 
-/// How many control bytes wait for a service at most, and how many pieces of its output for its logger.
+/// The most control bytes that wait for a service, and the most pieces of its output that wait for its logger.
 pub(crate) const MAIL: usize = 64;
 
-/// How many events a service's trace has.
+/// The number of events in a service's trace.
 const TRACE: usize = 256;
 
-/// The services of this system that run: their host, and where svscan's own control bytes come. Contracts see it as
-/// `Serving`: the host, whether the next round is idle, and the bytes that came.
+/// The services of this system that are served: their host, and the inbox for svscan's own control bytes. Contracts see
+/// it as `Serving`: the host, whether the next round is idle, and the bytes that came.
 #[derive(Drop)]
 pub struct Running<M: Maker + Drop, R: Runtime> {
     pub(crate) host: Host<M, R>,
     pub(crate) inbox: Option<MailInbox>,
     // When the last round was over, by the running clock.
     pub(crate) rests_since: Option<Duration>,
-    // What the folder had when it was listed last, where that was.
+    // What the folder had when it was last listed, if it was.
     pub(crate) names: Option<FolderNames>,
     // Whether the next round is idle.
     pub(crate) quiet: Quiet,
@@ -49,7 +49,7 @@ impl<M: Maker + Drop, R: Runtime> Model for Running<M, R> {
     } };
 }
 
-/// The services of this system that run.
+/// The services of this system that are served.
 pub type SystemHost<R> = Running<FolderMaker<SystemParts<R>>, R>;
 
 /// Opens the door of this system's services, and makes their host.

@@ -17,7 +17,7 @@ use svc_maker::FolderHolder;
 use svscan_rounds::{RoundOut, Unmade};
 use tai_status::{Names, TimeSource};
 
-/// What a round did in which there was nothing to do.
+/// Returns what a round did if there was nothing to do.
 fn idle_round(alloc: Global) -> RoundOut
     ensures { DidNothing result }
 {
@@ -29,8 +29,8 @@ fn idle_round(alloc: Global) -> RoundOut
     }
 }
 
-/// Admits the parts that wait for it to the door, and names those that could not be made or admitted. For want of
-/// memory some of these are reported in a later round.
+/// Admits the parts that wait for it to the door, and names those that could not be made or admitted. If there is too
+/// little memory, some of these are reported in a later round.
 fn admit<M, R>(
     alloc: Global,
     host: &mut Host<M, R>,
@@ -48,7 +48,7 @@ where
     unmade_in(alloc, host, &failed)
 }
 
-/// What the maker is asked before a scan: the folder of the services, and what their outputs lack.
+/// Asks the maker for what it must do before a scan: use the folder of the services, and make what their outputs lack.
 fn prepare<M, R>(host: &mut Host<M, R>, folder: &str, rows: &[DirRow]) -> Result<(), AllocError>
 where
     M: FolderHolder + Drop,
@@ -56,15 +56,15 @@ where
     ensures { Prepares folder.now rows.now (is_ok result) host.old host.new }
 {
     set_folder(host, folder)?;
-    // The limit may have been raised since.
+    // The limit may have been raised since the last time.
     allow(host, allowed_descriptors());
     prepare_outputs(host, rows);
     Ok(())
 }
 
-/// One scan of the rows of a folder, and what parts lost that ended before, which is forgotten once the scan is made.
-/// The parts that it begins get their sockets once all have begun, since each child copies and closes the descriptors
-/// that there are.
+/// Makes one scan of the rows of a folder, and returns also what parts lost that ended before. That is forgotten once
+/// the scan is made. The parts that the scan begins get their sockets after all have begun, because each child copies
+/// and closes the descriptors that there are.
 fn scan<M, R>(
     rt: R,
     alloc: Global,
@@ -77,7 +77,8 @@ where
     R: Runtime,
     ensures { Scans folder.now host.old rows.now result host.new }
 {
-    // Before the scan, since that gives the slots of what ended, and with them the names, to other services.
+    // This comes before the scan, because the scan gives the slots of parts that ended, and with them the names, to
+    // other services.
     let Ok((untaken, untraced)) = losses_of(alloc, host) else {
         return Err(ScanFault::OutOfMemory);
     };
@@ -99,7 +100,7 @@ where
     }
 }
 
-/// One scan of the rows of a folder, unless the round is idle.
+/// Makes one scan of the rows of a folder, unless the round is idle.
 fn scan_unless<M, R>(
     rt: R,
     alloc: Global,
@@ -119,7 +120,7 @@ where
     scan(rt, alloc, host, folder, rows)
 }
 
-/// One round: a scan of the rows of a folder, unless the round is idle. Then a rest begins.
+/// Makes one round: a scan of the rows of a folder, unless the round is idle. Then a rest begins.
 pub(crate) fn round<M, R>(
     rt: R,
     alloc: Global,

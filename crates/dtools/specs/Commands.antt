@@ -1,5 +1,5 @@
--- What each command does with the words behind its name, in parts, each with what no other command touches; and what a
--- command leaves alone.
+-- What each command does with the words after its name. It is split into parts, each with what no other command
+-- touches. The last part says what a command leaves alone.
 use Rattle.std.specs.Prelude.{◌≡◌, ⊤, ℕ, ℤ, List, Bool, true, false, Option}
 use Rattle.cmd_base.specs.Console.{Console}
 use Rattle.cmd_base.specs.Known.{KnownFiles}
@@ -28,12 +28,12 @@ use Rattle.cmd_wait.specs.Ends as waiting
 use Rattle.svscan_rounds.specs.Calls as handling
 use Rattle.svscan_rounds.specs.Rounds as svscan
 
--- What a command may use: its devices; and the services that it asks, with its clock.
+-- What a command may use: its devices, and the services that it asks, with its clock.
 pub record Equipment : Type 0 where
   pub console : Console
   pub sight : Sight
 
--- Those that need nothing else.
+-- The commands that need nothing else.
 abbrev pub PlainEnds : Command → (words : List (List ℕ)) (status : ℕ) (old new : Equipment) → Type 0
 PlainEnds command.Sim words status old new = SimEnds words status old.console new.console
 PlainEnds command.Tai64n words status old new =
@@ -45,8 +45,8 @@ PlainEnds command.Version words status old new =
     VersionEnds words status old.console.writer new.console.writer old.console.faults new.console.faults
 PlainEnds other words status old new = ⊤
 
--- Those that know local times, by how many seconds clocks are ahead of UTC, at each second of Unix time; and the files
--- that one of them reads, where they are known.
+-- The commands that know local times, from the number of seconds by which clocks are ahead of UTC, at each second of
+-- Unix time. One of them also reads files, which may be known.
 abbrev pub ZonedEnds : Command → (words : List (List ℕ)) (status : ℕ) (ahead : ℤ → ℤ) (files : KnownFiles)
     (old new : Equipment) → Type 0
 ZonedEnds command.Tai64nlocal words status ahead files old new = LocalEnds ahead words status old.console new.console
@@ -54,7 +54,7 @@ ZonedEnds command.Trace words status ahead files old new =
     TraceEnds ahead files words status old.console.writer new.console.writer old.console.faults new.console.faults
 ZonedEnds other words status ahead files old new = ⊤
 
--- Only `envdir` hands over commands to start, by the folders and the variables of the system.
+-- Only `envdir` hands over commands to start, from the folders and the variables of the system.
 abbrev pub ChildEnds : Command → (words : List (List ℕ)) (status : ℕ) (system : SystemState)
     (past now : Option (List Launch)) (old new : Equipment) → Type 0
 ChildEnds command.Envdir words status system past now old new =
@@ -71,7 +71,7 @@ LoggerEnds command.Multilog words status shelf shelves feed feeds old new =
     (stage shelves feeds new.sight.readings new.console.faults)
 LoggerEnds other words status shelf shelves feed feeds old new = (shelves ≡ shelf) × (feeds ≡ feed)
 
--- Those that ask services, of which here are three, and the files of services' counts, where they are known.
+-- Three of the commands that ask services, and the files with services' counts, if these are known.
 abbrev pub ServiceEnds : Command → (words : List (List ℕ)) (status : ℕ) (counts : CountFiles) (old new : Equipment)
     → Type 0
 ServiceEnds command.Svc words status counts old new =
@@ -83,7 +83,7 @@ ServiceEnds command.Svok words status counts old new =
     SvokEnds words status old.sight.calls new.sight.calls × (new.console ≡ old.console)
 ServiceEnds other words status counts old new = ⊤
 
--- `why`, and what is known of the files of services, and of local times.
+-- `why`, and what is known about the files of services and about local times.
 abbrev pub ReasonEnds : Command → (words : List (List ℕ)) (status : ℕ) (known : Knowledge) (old new : Equipment)
     → Type 0
 ReasonEnds command.Why words status known old new =
@@ -91,7 +91,7 @@ ReasonEnds command.Why words status known old new =
     new.console.faults
 ReasonEnds other words status known old new = ⊤
 
--- Only `wait` has a pace, whose steps these are.
+-- Only `wait` has a pace, with these steps.
 abbrev pub PacedEnds : Command → (words : List (List ℕ)) (status : ℕ) (steps taken : Option (List Step))
     (old new : Equipment) → Type 0
 PacedEnds command.Wait words status steps taken old new =
@@ -99,14 +99,14 @@ PacedEnds command.Wait words status steps taken old new =
     (waiting.scene (sight new.sight.calls taken) new.console.faults)
 PacedEnds other words status steps taken old new = taken ≡ steps
 
--- Only `svscan` keeps the services of a folder running, of which it asks this.
+-- Only `svscan` keeps the services of a folder running. It makes these requests for them.
 abbrev pub ScanEnds : Command → (words : List (List ℕ)) (status : ℕ) (past now : Option (List handling.Call))
     (old new : Equipment) → Type 0
 ScanEnds command.Svscan words status past now old new =
     svscan.SvscanEnds words status (svscan.effects past old.console.faults) (svscan.effects now new.console.faults)
 ScanEnds other words status past now old new = now ≡ past
 
--- the commands that read the standard input: a logger has an input of its own
+-- the commands that read the standard input; a logger has an input of its own
 abbrev pub reads_input : Command → Bool
 reads_input command.Sim = true
 reads_input command.Tai64n = true
@@ -140,7 +140,7 @@ reads_clock command.Svstat = true
 reads_clock command.Why = true
 reads_clock other = false
 
--- What a command is not handed is as it was.
+-- What a command does not get is unchanged.
 pub record Leaves (of : Command) (old new : Equipment) : Type 0 where
   pub unread : reads_input of ≡ false → new.console.reader ≡ old.console.reader
   pub unwritten : prints of ≡ false → new.console.writer ≡ old.console.writer

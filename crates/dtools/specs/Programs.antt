@@ -1,4 +1,4 @@
--- How the program ends, by its words. The first names the command, and the words after it are its own.
+-- How the program ends, by its words. The first one names the command, and the words after it are its own.
 use Rattle.std.specs.Prelude.{◌≡◌, ℕ, ℤ, List, [], ◌∷◌, ◌++◌, codes, Option, Some, None, ⊤}
 use Rattle.tai_status.specs.Counted.{Reports}
 use Rattle.cmd_base.specs.Known.{KnownFiles}
@@ -26,12 +26,12 @@ pub record Refuses (text : List ℕ) (status : ℕ) (old new : Equipment) : Type
   pub reported : Reports old.console.faults new.console.faults text
   pub unasked : new.sight ≡ old.sight
 
--- What holds of a command and its words, where the word before them names one; else that this does.
+-- What holds for a command and its words, if the word before them names one; otherwise, what holds for an unknown name.
 abbrev pub OfNamed : Option Command → (unknown : Type 0) (of : Command → Type 0) → Type 0
 OfNamed None unknown of = unknown
 OfNamed (Some command) unknown of = of command
 
--- What holds by words: where there are none, where the first names no command, and of the one that it names.
+-- What holds by the words: if there are none, if the first one names no command, and for the command that it names.
 abbrev pub ByWords : (words : List (List ℕ)) (none unknown : Type 0)
     (of : Command → (words : List (List ℕ)) → Type 0) → Type 0
 ByWords [] none unknown of = none

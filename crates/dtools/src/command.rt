@@ -28,7 +28,7 @@ use std::io::{Read, Write};
 use std::sync::Wait;
 use tai_status::{Output, TimeSource};
 
-/// Runs a command over the words behind its name, and answers its status. A logger has an input of its own.
+/// Runs a command over the words after its name, and returns its exit status. A logger has an input of its own.
 fn run_command<R, L, K, I, S, P, V, T, Z, D, W, E, C>(
     rt: &R,
     launcher: &mut L,
@@ -119,7 +119,7 @@ where
     }
 }
 
-/// Says that no command is named, and which command lists them, and returns the status of that.
+/// Reports that no command is named, and which command lists them, and returns the exit status for that.
 fn refuse_no_command<E: Write>(faults: &mut Output<E>) -> u8
     ensures status { result ≡ 100 }
     ensures reported { Reports faults.old faults.new no_command_report }
@@ -131,8 +131,9 @@ fn refuse_no_command<E: Write>(faults: &mut Output<E>) -> u8
     )
 }
 
-/// Runs the command that the first word names, over the words after it, and returns its status. No word, or one that
-/// names no command, is `dtools: usage`, with a line that names `dtools help`, and the status 100.
+/// Runs the command that the first word names, over the words after it, and returns its exit status. If there is no
+/// word, or the first one names no command, reports `dtools: usage`, with a line that names `dtools help`, and returns
+/// 100.
 pub fn run<R, L, K, I, S, P, V, T, Z, D, W, E, C>(
     rt: &R,
     launcher: &mut L,

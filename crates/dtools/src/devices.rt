@@ -4,8 +4,8 @@ use std::io::{Read, Write};
 use std::marker::Model;
 use tai_status::{Input, Output, TimeSource};
 
-/// What a command reads and writes, where it reports its faults, the services that it asks, and its clock. A command is
-/// handed only those that it needs.
+/// What a command reads and writes, the device for reports of its faults, the services that it asks, and its clock. A
+/// command gets only those that it needs.
 #[derive(Drop)]
 pub struct Devices<D: Read, W: Write, E: Write, S: Services, C: TimeSource> {
     pub reader: Input<D>,

@@ -1,5 +1,5 @@
-//! dtools: supervision and logging of services, after D. J. Bernstein's daemontools, as one program.
-//! Its first word is the command.
+//! dtools: supervision and logging of services, after D. J. Bernstein's daemontools, as one program. Its first word is
+//! the command.
 #![tactic(auto)]
 
 ghost use Rattle.cmd_svscan.specs.Requests.{IsReplyTo};
@@ -56,7 +56,8 @@ fn main(rt: HostRuntime) -> ExitCode {
     ExitCode::from(run_arguments(&rt, &rt, &mut lines, &mut service_set, &mut devices))
 }
 
-/// The channel by which a logger is asked to stop or to rotate, where the command is one and there is a channel.
+/// Returns the channel through which a logger is asked to stop or to rotate, if the command is a logger and there is a
+/// channel.
 fn logger_channel(rt: &HostRuntime) -> Option<i32> {
     match env::args(rt).ok()?.skip(1).next() {
         Some(name) if name.as_str() == "multilog" => stop_channel(rt),
@@ -64,7 +65,7 @@ fn logger_channel(rt: &HostRuntime) -> Option<i32> {
     }
 }
 
-/// Runs the program's words, but for its own name.
+/// Runs the program's words, without its own name.
 fn run_arguments<V, I, P, D, W, E, S, C>(
     rt: &HostRuntime,
     waiting: &V,
@@ -140,8 +141,8 @@ where
     }
 }
 
-/// The zone of this computer, where the command reports local times, `trace` only with its flag. The others need none.
-/// `AllocError` comes where memory for it is refused.
+/// Returns the zone of this computer if the command prints local times; `trace` does so only with its flag. Other
+/// commands need none. Returns `AllocError` if memory for it is refused.
 fn zone_for(rt: &HostRuntime, words: &[&str]) -> Result<LocalZone, AllocError> {
     match words {
         ["tai64nlocal" | "why", ..] => system_zone(rt),
@@ -150,7 +151,7 @@ fn zone_for(rt: &HostRuntime, words: &[&str]) -> Result<LocalZone, AllocError> {
     }
 }
 
-/// Says why the words are not run, and returns the status of that.
+/// Reports why the words are not run, and returns the exit status for that.
 fn refuse_words<E: Write>(fault: &WordsFault, faults: &mut Output<E>) -> u8 {
     match fault {
         WordsFault::OutOfMemory => report(faults, b"dtools: OutOfMemory\n", TROUBLE),

@@ -1,4 +1,4 @@
-//! The words of the command line, of which one may be no text.
+//! The words of the command line, which need not be text.
 ghost use Rattle.std.specs.Prelude.{string_bytes, IfOk};
 ghost use Rattle.dtools.specs.Words.{EndsWithZero};
 
@@ -8,8 +8,8 @@ use std::env;
 use std::env::{Env, FillError};
 use std::io::ErrorKind;
 
-/// How many bytes a buffer for a word has first, and how often it is made twice as large: a word of Linux is shorter
-/// than the last one (execve(2): 32 pages).
+/// The bytes of the first buffer for a word, and how many sizes are tried, each twice the one before. A word of Linux
+/// is shorter than the last size (execve(2): 32 pages).
 const FIRST_BYTES: usize = 4096;
 
 const SIZES: u32 = 11;
@@ -19,7 +19,7 @@ const SIZES: u32 = 11;
 pub(crate) enum WordsFault {
     /// There is no memory for them.
     OutOfMemory,
-    /// A word is no text, and names no service: the line that says which one.
+    /// A word is not text, and names no service. This is the line that says which one.
     NoText(String),
 }
 
@@ -29,11 +29,11 @@ impl From<AllocError> for WordsFault {
     }
 }
 
-/// The words of the program, without its own name.
+/// Returns the words of the program, without its own name.
 ///
-/// A word of a command that names services, and that is no text, is replaced by a name that no file has: the command
-/// then reports of that service that it is not there, and shows the others. One that begins with `-`, and one of any
-/// other command, is refused.
+/// If a command names services, a word of it that is not text is replaced by a name that no file has. The command then
+/// reports that this service does not exist, and shows the others. A word that is not text is refused if it begins with
+/// `-`, and for any other command.
 pub(crate) fn program_words(rt: &HostRuntime) -> Result<Vec<String>, WordsFault> {
     let all = match env::args(rt) {
         Ok(all) => all,
@@ -57,7 +57,7 @@ fn push_word(words: &mut Vec<String>, word: String) -> Result<(), WordsFault> {
     }
 }
 
-/// The same, if one of them is no text.
+/// Does the same if one of them is not text.
 fn words_of_bytes(rt: &HostRuntime) -> Result<Vec<String>, WordsFault> {
     let mut words: Vec<String> = Vec::new(rt.alloc());
     for place in 1..usize::MAX {
@@ -70,7 +70,7 @@ fn words_of_bytes(rt: &HostRuntime) -> Result<Vec<String>, WordsFault> {
     Ok(words)
 }
 
-/// The bytes of the word at a place, if there is one.
+/// Returns the bytes of the word at a place, if there is one.
 fn bytes_at(rt: &HostRuntime, place: usize) -> Result<Option<Vec<u8>>, AllocError> {
     for doublings in 0..SIZES {
         let mut bytes = vec![in rt.alloc(); 0; FIRST_BYTES << doublings]?;
@@ -86,7 +86,7 @@ fn bytes_at(rt: &HostRuntime, place: usize) -> Result<Option<Vec<u8>>, AllocErro
     Err(AllocError)
 }
 
-/// The next word, by those before it and by its bytes.
+/// Returns the next word, from those before it and from its bytes.
 fn word_of(rt: &HostRuntime, before: &[String], bytes: Vec<u8>) -> Result<String, WordsFault> {
     let bytes = match String::from_utf8(bytes) {
         Ok(text) => return Ok(text),
@@ -102,7 +102,7 @@ fn word_of(rt: &HostRuntime, before: &[String], bytes: Vec<u8>) -> Result<String
     Err(WordsFault::NoText(refusal(rt.alloc(), command, &bytes)?))
 }
 
-/// Whether the words of a command, but for its options, name services.
+/// Returns whether the words of a command, except for its options, name services.
 fn names_services(command: &str) -> bool {
     matches!(
         Command::named(command),
@@ -110,12 +110,12 @@ fn names_services(command: &str) -> bool {
     )
 }
 
-/// The digit of a number below 16.
+/// Returns the digit of a number below 16.
 fn digit(number: u8) -> char {
     char::from_digit(u32::from(number), 16).unwrap_or('?')
 }
 
-/// Writes bytes at the end of a text: what is no UTF-8 as `\x` and two hexadecimal digits a byte.
+/// Writes bytes at the end of a text. Bytes that are not UTF-8 are each written as `\x` and two hexadecimal digits.
 fn push_escaped<A: Allocator>(out: &mut String<A>, bytes: &[u8]) -> Result<(), AllocError> {
     for chunk in bytes.utf8_chunks() {
         out.push_str(chunk.valid())?;
@@ -128,7 +128,7 @@ fn push_escaped<A: Allocator>(out: &mut String<A>, bytes: &[u8]) -> Result<(), A
     Ok(())
 }
 
-/// A name that no file has, since it has a zero byte at its end: a word that is no text, escaped.
+/// Returns a name that no file has, because it has a zero byte at its end: a word that is not text, escaped.
 fn missing_name<A: Allocator>(alloc: A, bytes: &[u8]) -> Result<String<A>, AllocError>
     ensures { IfOk result (λ name. EndsWithZero (string_bytes name)) }
 {
@@ -138,7 +138,7 @@ fn missing_name<A: Allocator>(alloc: A, bytes: &[u8]) -> Result<String<A>, Alloc
     Ok(name)
 }
 
-/// The line that says of a word that it is no text, after the name of the command.
+/// Returns the line that says that a word is not text, after the name of the command.
 fn refusal<A: Allocator>(alloc: A, command: &str, bytes: &[u8]) -> Result<String<A>, AllocError> {
     let mut line = String::from_str(alloc, command)?;
     line.push_str(": ")?;

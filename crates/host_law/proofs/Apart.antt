@@ -1,4 +1,4 @@
--- What a scan starts and restarts has names of its own.
+-- What a scan starts and restarts has ids of its own.
 use Rattle.std.proofs.Common.{◌≡◌, ℕ, ◌+◌, ◌<◌, ◌≤◌, Bool, true, false, List, [], ◌∷◌, ◌++◌, map, length, refl, sym}
 use Rattle.std.proofs.Common.{subst, ap, ◌∙◌, Option, Some, None, if◌then◌else◌, arith}
 use Rattle.std.specs.Prelude.{flat_map}
@@ -74,7 +74,7 @@ restarts_given slots rows n row =
       }
     ] refl
 
--- What rows are given, one after the other
+-- What rows get, one after the other
 
 in_order : (needs : Row → ℕ) (gift : ℕ → Row → List PartId) (n : ℕ) (rows : List Row)
     → ((n : ℕ) (row : Row) → Given n (needs row) (gift n row))

@@ -15,19 +15,19 @@ use Rattle.svc_host.specs.Rounds.{HostState, IsScanned}
 use Rattle.host_law.specs.Alike.{part_of}
 use Rattle.host_law.specs.Whole.{AreApart, Follows, StandsFor, ids_of}
 
--- what is to be shown of a scan
+-- what must be shown about a scan
 abbrev pub ScansFollow : Type 0 → Type 0
 ScansFollow A =
     (suite : SuiteState) (rows : List Row) (label : Tai64n) (out : HostOut) (old new : HostState)
     → StandsFor suite old → IsScanned old rows label out new → Follows A suite new
 
--- what a scan starts and restarts has names of its own
+-- what a scan starts and restarts has ids of its own
 abbrev pub ScanApart : Type 0
 ScanApart =
     (suite : SuiteState) (rows : List Row) → IsSuite suite → scan_refusal suite.table rows ≡ None
     → AreApart (map part_of (scan_starts suite.table rows ++ scan_restarts suite.table rows))
 
--- names that differ one way differ the other way
+-- ids that differ one way differ the other way
 pub turned_round : (a b : PartId) → is_part a b ≡ false → is_part b a ≡ false
 turned_round a b other =
     elim (is_part b a) as (λ t. is_part b a ≡ t → t ≡ false) [
@@ -37,7 +37,7 @@ turned_round a b other =
       | false ↦ λ is. refl
     ] refl
 
--- what holds of all names holds of the one in the middle, and of the parts
+-- what holds for all ids holds for the one in the middle, and for the others
 pub at_middle : (P : PartId → Type 0) (before : List HostPart) (part : HostPart) (after : List HostPart)
     → AllByRecursion P (ids_of (before ++ part ∷ after)) → P part.id
 at_middle P [] part after all = all.0
@@ -48,7 +48,7 @@ pub of_parts : (P : PartId → Type 0) (parts : List HostPart) → AllByRecursio
 of_parts P [] all = tt
 of_parts P (part ∷ parts) all = (all.0, of_parts P parts all.1)
 
--- the others have other names
+-- the others have other ids
 pub others_before : (before : List HostPart) (part : HostPart) (after : List HostPart)
     → AreApart (ids_of (before ++ part ∷ after))
     → AllByRecursion (λ (other : HostPart). is_part part.id other.id ≡ false) before
@@ -90,7 +90,7 @@ pub with_middle : (P : HostPart → Type 0) (before : List HostPart) (part : Hos
 with_middle P [] part after bs p cs = (p, cs)
 with_middle P (x ∷ before) part after bs p cs = (bs.0, with_middle P before part after bs.1 p cs)
 
--- the names, where one is replaced by one of its name
+-- the ids, if one part is replaced by one with the same id
 pub same_names : (before : List HostPart) (old new : HostPart) (after : List HostPart) → new.id ≡ old.id
     → ids_of (before ++ new ∷ after) ≡ ids_of (before ++ old ∷ after)
 same_names [] old new after is = ap (λ (id : PartId). id ∷ ids_of after) is

@@ -30,7 +30,7 @@ use Rattle.host_law.proofs.Lists.{same_names, with_middle}
 use Rattle.host_law.proofs.Publishing.{reported, trace_there}
 use Rattle.host_law.proofs.Telling.{Last, all_told, last_of, not_gone, one_more}
 
--- A part that has the name, the station, the events and the thread of another.
+-- A part with the id, the station, the events and the thread of another.
 pub told_as : (suite : SuiteState) (i j : PartId) (m n : State) (xs ys : List Event) (b c : Bool) → j ≡ i → n ≡ m
     → ys ≡ xs → c ≡ b → IsToldOf suite i m xs b → IsToldOf suite j n ys c
 told_as suite i j m n xs ys b c p q r s is =
@@ -39,7 +39,7 @@ told_as suite i j m n xs ys b c p q r s is =
     (subst (λ (ys : List Event). IsToldOf suite i m ys c) (sym r)
     (subst (λ (c : Bool). IsToldOf suite i m xs c) (sym s) is)))
 
--- An event at a part tells nothing of another.
+-- An event at a part changes nothing of another part.
 pub other_told : (suite : SuiteState) (id : PartId) (event : Event) (part : HostPart) → IsTold suite part
     → is_part id part.id ≡ false → IsTold (suite_at suite id event) part
 other_told suite id event part is other =
@@ -50,7 +50,7 @@ other_told suite id event part is other =
       trace = trace_of-after suite.parts id part.id event ∙ rw (is.trace, other) refl;
     }
 
--- Parts, where one of them is told of an event
+-- Parts, with an event at one of them
 
 module _ (suite : SuiteState) (event : Event) (before : List HostPart) (old new : HostPart)
     (after : List HostPart) (same : new.id ≡ old.id) (distinct : AreApart (ids_of (before ++ old ∷ after)))
@@ -77,7 +77,7 @@ module _ (suite : SuiteState) (event : Event) (before : List HostPart) (old new 
       with_middle (IsTold suite) before new after (before_middle (IsTold suite) before old after all) here
       (after_middle (IsTold suite) before old after all)
 
--- An event that a part is told of
+-- An event that a part takes
 
 module _ (suite : SuiteState) (id : PartId) (machine : State) (known : List Event) (event : Event)
     (there : trace_of suite.parts id ≡ Some (trace_after machine suite.capacity known))
@@ -100,7 +100,7 @@ module _ (suite : SuiteState) (id : PartId) (machine : State) (known : List Even
   trace_then = trace_there suite.parts id event kept there
       ∙ ap Some (sym (trace_after-more machine suite.capacity known event taken))
 
--- One more event is heard of
+-- One more event is read
 
 module _ (suite : SuiteState) (host new : HostState) (event : Event) (stands : StandsFor suite host)
     (table : new.table ≡ host.table) (one : OneHas (HasHeard event) host.parts new.parts) where
@@ -149,7 +149,7 @@ module _ (suite : SuiteState) (host new : HostState) (event : Event) (stands : S
       later.has_ended one.changed.id (ap (λ o. o.opening) one.changed.station) one.changed.known
       (one.changed.has_ended ∙ ran) so
 
-  -- by it the part is gone: that is told at the join
+  -- after it the part is gone: the suite takes it at the join
   is_over : {A : Type 0} → is_gone (phase_of (Then past event)) ≡ true → Follows A suite new
   is_over gone =
       record {
@@ -172,7 +172,7 @@ module _ (suite : SuiteState) (host new : HostState) (event : Event) (stands : S
         };
       }
 
-  -- the suite is told
+  -- the suite takes it
   goes_on : {A : Type 0} → is_gone (phase_of (Then past event)) ≡ false → Follows A suite new
   goes_on on =
       record {
@@ -278,7 +278,7 @@ module _ (suite : SuiteState) (host new : HostState) (id : PartId) (stands : Sta
       same : one.new.id ≡ joined.id
       same = one.changed.is ∙ sym one.changed.was
 
--- Nothing of the kind changes
+-- Nothing of this kind changes
 
 same_parts : (suite : SuiteState) (olds news : List HostPart) → AreAsKnown olds news
     → AllByRecursion (IsTold suite) olds → AllByRecursion (IsTold suite) news

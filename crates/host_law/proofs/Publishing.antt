@@ -49,7 +49,7 @@ answered part past kept event same taken =
     let state = ap (λ (s : State). s.phase) (replays past kept event same taken) in
     rw (reply, state) refl
 
--- Where a part is gone, it takes nothing more.
+-- If a part is gone, it takes nothing more.
 pub is_gone-gone : (p : Phase) → is_gone p ≡ true → p ≡ phase.Gone
 is_gone-gone phase.Gone is = refl
 is_gone-gone phase.Starting is = cc is

@@ -110,7 +110,7 @@ lives_below suite [] is all = tt
 lives_below suite (part ∷ parts) is all =
     (life-below suite part.id _ is all.0.trace, lives_below suite parts is all.1)
 
--- Names by their lives
+-- Ids by their lives
 
 cross_one : (n : ℕ) (id : PartId) (parts : List HostPart) → n ≤ id.life
     → AllByRecursion (λ (i : PartId). i.life < n) (ids_of parts) → AllByRecursion (Differs id) parts

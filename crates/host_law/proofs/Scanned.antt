@@ -39,7 +39,7 @@ use Rattle.host_law.proofs.Lists.{all_both, turned_round}
 use Rattle.host_law.proofs.Moving.{told_as}
 use Rattle.host_law.proofs.Running.{accepted_append, along_append}
 
--- Others are as they were, where events are at one part.
+-- Other parts are unchanged by events at one part.
 
 same_option : (event : Event) (t : Option Kept) → option_map (noted_where false event) t ≡ t
 same_option event None = refl
@@ -81,7 +81,7 @@ are_events : (A : Type 0) (id : PartId) (events : List Event) → AllByRecursion
 are_events A id [] all = tt
 are_events A id (event ∷ events) all = (all.0, are_events A id events all.1)
 
--- A part that has just begun is brought to its end: it is told to leave, after it started where it starts.
+-- A part that has just begun is brought to its end: it is asked to exit, after it started if it starts.
 
 abbrev ending : Bool → Tai64n → List Event
 ending true label = Byte 120 ∷ []
@@ -100,7 +100,7 @@ ending_gone : (down : Bool) (label : Tai64n)
 ending_gone true label = refl
 ending_gone false label = refl
 
--- Opens: a part opens otherwise
+-- Openings: a part opens in another way
 
 opened_here : (parts : List PartState) (id : PartId) (machine : State) (capacity : ℕ) (kept : Kept)
     → trace_of parts id ≡ Some kept → trace_of (reopened id machine capacity parts) id ≡ Some (new_trace machine capacity)
@@ -170,7 +170,7 @@ opened_traces (part ∷ parts) id machine capacity room limit all =
 
 -- What begins, one part after the other
 
--- nothing is told of it yet
+-- none of its events has been published yet
 pub record IsJustBegun (suite : SuiteState) (id : PartId) : Type 0 where
   pub down : Bool
   pub label : Tai64n
@@ -246,7 +246,7 @@ pub record Placed (A : Type 0) (s : SuiteState) (failed : List PartId) (stay beg
 abbrev pub Differs : PartId → HostPart → Type 0
 Differs id part = is_part id part.id ≡ false
 
--- Parts that begin, each of which is there or failed, by these flags.
+-- Parts that begin. These flags say which ones the host has, and which failed.
 pub placed : (A : Type 0) (s : SuiteState) (flags : List Bool) (ids : List PartId) (stay begun : List HostPart)
     → length flags ≡ length ids → ids_of begun ≡ chosen flags ids → AreApart ids
     → AllByRecursion (λ (id : PartId). AllByRecursion (Differs id) stay) ids → IsSuite s

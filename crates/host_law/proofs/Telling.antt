@@ -1,4 +1,4 @@
--- Which of a part's events a suite is told.
+-- Which of a part's events a suite takes.
 use Rattle.std.proofs.Common.{◌≡◌, Bool, true, false, List, [], ◌∷◌, ◌++◌, refl, sym, subst, ap, ◌∙◌}
 use Rattle.std.proofs.Common.{if◌then◌else◌}
 use Rattle.sup_core.specs.declared.event.Event.{Event}
@@ -10,7 +10,7 @@ use Rattle.sup_core.proofs.Laws.{takes-gone}
 use Rattle.host_law.specs.Whole.{before_end, told}
 use Rattle.host_law.proofs.Publishing.{is_gone-gone, nothing_more}
 
--- What takes an event is not gone.
+-- A history that takes an event is not gone.
 pub not_gone : (past : History) (event : Event) → takes past event ≡ true → is_gone (phase_of past) ≡ false
 not_gone past event taken =
     elim (is_gone (phase_of past)) as (λ b. is_gone (phase_of past) ≡ b → b ≡ false) [
@@ -43,7 +43,7 @@ pushed : (b : Bool) (first : Event) (xs ys : List Event) → first ∷ (if b the
 pushed true first xs ys = refl
 pushed false first xs ys = refl
 
--- One more event is told, unless the machine is gone by it.
+-- One more event is taken, unless the machine is gone after it.
 pub one_more : (past : History) (events : List Event) (event : Event) → AreTaken past events
     → is_gone (phase_of (followed_by past events)) ≡ false
     → before_end past (events ++ event ∷ [])
@@ -62,7 +62,7 @@ one_more past (first ∷ events) event taken here =
           (events ++ event ∷ [])
     ] refl
 
--- The events of a machine that is gone: those before the last one, and that.
+-- The events of a machine that is gone: those before the last one, and the last one.
 pub record Last (past : History) (events : List Event) : Type 0 where
   pub last : Event
   pub whole : events ≡ before_end past events ++ last ∷ []
@@ -96,7 +96,7 @@ last_of past (event ∷ events) taken here gone =
           }
     ] refl
 
--- Of a part that is not gone all is told.
+-- If a part is not gone, all its events are taken.
 pub all_told : (machine : State) (known : List Event) (has_ended : Bool) → AreTaken (Opened machine) known
     → is_gone (phase_of (followed_by (Opened machine) known)) ≡ false → told machine known has_ended ≡ known
 all_told machine known true taken here = refl

@@ -28,29 +28,29 @@ use Rattle.svc_host.specs.Rounds.{HostState, IsParted, IsScanned, after_ends, un
 
 -- Scans
 
--- the part of a beginning
+-- the part that begins
 abbrev pub part_of : Beginning → PartId
 part_of begun = begun.part
 
--- A part of a host that begins by its row begins as a scan of the suite begins the part of that name: with the same
--- machine, and nothing after it. Where an earlier svscan left something, which no suite does, it may begin otherwise.
+-- A part of a host that begins by its row begins as a scan of the suite begins the part with that id: with the same
+-- machine, and nothing after it. If an earlier svscan left something, which no suite does, it may begin in another way.
 abbrev pub BeginsAlike : SuiteState → List Row → Tai64n → HostPart → Type 0
 BeginsAlike suite rows label part =
     part.opening ≡ ByRow
     → IsBegun part.id (opening label (beginning (scanned suite.table rows).slots rows part.id)) part
 
--- A scan of a host beside a scan of a suite, at the same rows and label.
+-- A scan of a host, compared with a scan of a suite, for the same rows and label.
 pub record IsScanAlike (suite : SuiteState) (rows : List Row) (label : Tai64n)
     (old : HostState) (out : HostOut) (new : HostState) : Type 0 where
-  -- They answer the same starts, restarts, drops and refusals.
+  -- Both return the same starts, restarts, drops and refusals.
   pub answer : out.scan ≡ scan_out suite.table rows
-  -- They come to the same table, but for the parts that the host could not make: these have ended.
+  -- Both come to the same table, except for the parts that the host could not make: these have ended.
   pub table : new.table ≡ after_ends (unmade_ids out.failed.items) (suite_scanned suite rows label).table
-  -- The parts that stay are those that the suite doesn't take away, and the begun ones come behind them.
+  -- The parts that stay are those that the suite does not take away. The parts that begin come after them.
   pub begun : List HostPart
   pub parts : new.parts ≡ filter (λ (part : HostPart). not (is_taken_away suite rows part.id)) old.parts ++ begun
   pub each : All (BeginsAlike suite rows label) begun
-  -- Those and the ones that could not be made are all that the suite begins, in its order.
+  -- These and the ones that could not be made are all that the suite begins, in its order.
   pub all : IsParted (map part_of (scan_starts suite.table rows ++ scan_restarts suite.table rows))
       (map (λ (part : HostPart). part.id) begun) (unmade_ids out.failed.items)
 
@@ -65,22 +65,22 @@ ScansAreAlike =
 abbrev pub at_part : {A : Type 0} → PartId → List Event → List (SuiteEvent A)
 at_part part events = map (λ event. At part event) events
 
--- what is answered at a part where each of these events is taken: the asks and the phase of its own history
+-- what the suite returns for a part that takes each of these events: the asks and the phase of its own history
 abbrev pub answers_along : {A : Type 0} → PartId → History → List Event → List (StepOut A)
 answers_along part past [] = []
 answers_along part past (event ∷ events) =
     out.At part (Took (asks_of past event)) (phase_of (Then past event)) ∷ answers_along part (Then past event) events
 
--- What becomes of a suite by events of one part of it, all of which that part takes.
+-- What becomes of a suite after events of one of its parts, if that part takes them all.
 pub record GoesAlong (A : Type 0) (suite : SuiteState) (part : PartId) (machine : State)
     (capacity : ℕ) (events : List Event) : Type 0 where
   -- The part's trace is that of these events, and replays to the machine after them.
   pub trace : trace_of (suite_along suite (at_part {A = A} part events)).parts part
       ≡ Some (trace_after machine capacity events)
   pub replays : replay (trace_after machine capacity events) ≡ state_of (followed_by (Opened machine) events)
-  -- Each event is answered as the part's own history says.
+  -- The answer to each event is what the part's own history says.
   pub answers : outs_along suite (at_part {A = A} part events) ≡ answers_along part (Opened machine) events
-  -- The table is reported of the part's end exactly where the part is gone.
+  -- The table records the end of the part exactly if the part is gone.
   pub table : (suite_along suite (at_part {A = A} part events)).table
       ≡ (if is_gone (phase_of (followed_by (Opened machine) events)) then after_end suite.table part else suite.table)
 

@@ -1,4 +1,4 @@
--- That a whole run of a host is a run of a suite.
+-- The law that a whole run of a host is a run of a suite.
 use Rattle.std.specs.Prelude.{◌≡◌, ◌<◌, ◌≤◌, ⊤, ℕ, Bool, true, false, if◌then◌else◌, List, [], ◌∷◌, ◌++◌, map, Option, Some, None}
 use Rattle.std.specs.List.{AllByRecursion}
 use Rattle.sup_core.specs.declared.event.Event.{Event}
@@ -15,15 +15,15 @@ use Rattle.svc_host.specs.Parts.{HostPart}
 use Rattle.svc_host.specs.Rounds.{HostState}
 use Rattle.svc_host.specs.HostRun.{HostRun, Move}
 
--- Runs of a suite in which parts may open otherwise
+-- Runs of a suite in which parts may open in another way
 
--- What a suite does beside a host: it takes an event; or a part that a scan has just begun opens with this machine, and
--- not as its row says, since an earlier svscan left it so.
+-- What a suite does next to a host. It takes an event; or a part that a scan has just begun opens with this machine,
+-- not as its row says, because an earlier svscan left it in that state.
 pub data Turn (A : Type 0) : Type 0 where
   Takes : (event : SuiteEvent A) → Turn A
   Opens : (part : PartId) → (machine : State) → Turn A
 
--- the parts, of which this one has a new trace of this machine
+-- the parts, with a new trace of this machine for this one
 abbrev pub reopened : PartId → State → (capacity : ℕ) → List PartState → List PartState
 reopened id machine capacity [] = []
 reopened id machine capacity (part ∷ parts) =
@@ -45,7 +45,7 @@ abbrev pub turned_along : {A : Type 0} → SuiteState → List (Turn A) → Suit
 turned_along suite [] = suite
 turned_along suite (turn ∷ turns) = turned_along (suite_turned suite turn) turns
 
--- A part opens otherwise only where it has just begun, and nobody was told anything of it.
+-- A part opens in another way only if it has just begun, and none of its events has been published.
 pub record IsNew (suite : SuiteState) (part : PartId) : Type 0 where
   pub machine : State
   pub trace : trace_of suite.parts part ≡ Some (new_trace machine suite.capacity)
@@ -59,16 +59,16 @@ abbrev pub AllAccepted : {A : Type 0} → SuiteState → List (Turn A) → Type 
 AllAccepted suite [] = ⊤
 AllAccepted suite (turn ∷ turns) = IsAccepted suite turn × AllAccepted (suite_turned suite turn) turns
 
--- A suite beside a host
+-- A suite next to a host
 
--- these events up to the one by which the machine is gone
+-- these events up to the one after which the machine is gone
 abbrev pub before_end : History → List Event → List Event
 before_end past [] = []
 before_end past (event ∷ events) =
     if is_gone (phase_of (Then past event)) then [] else event ∷ before_end (Then past event) events
 
--- The suite is told what the host has heard of: of the last event of a part only at the join of its thread, since
--- that is where the table learns of its end.
+-- The suite takes what the host has read. It takes the last event of a part only when the host joins its thread,
+-- because only then does the table learn of its end.
 abbrev pub told : State → List Event → (has_ended : Bool) → List Event
 told machine known has_ended = if has_ended then known else before_end (Opened machine) known
 
@@ -85,19 +85,19 @@ IsTold suite part = IsToldOf suite part.id part.station.opening part.known part.
 abbrev pub ids_of : List HostPart → List PartId
 ids_of parts = map (λ (part : HostPart). part.id) parts
 
--- No two of these names are of one part.
+-- No two of these ids are those of one part.
 abbrev pub AreApart : List PartId → Type 0
 AreApart [] = ⊤
 AreApart (id ∷ ids) = AllByRecursion (λ (other : PartId). is_part id other ≡ false) ids × AreApart ids
 
--- The suite has the host's table, and of each part of the host the trace of its own events.
+-- The suite has the host's table, and for each part of the host the trace of its own events.
 pub record StandsFor (suite : SuiteState) (host : HostState) : Type 0 where
   pub suite_is : IsSuite suite
   pub table : suite.table ≡ host.table
   pub apart : AreApart (ids_of host.parts)
   pub parts : AllByRecursion (IsTold suite) host.parts
 
--- what a suite does that stands for a host, so that it stands for what became of the host
+-- what a suite that stands for a host does, so that it stands for what the host has become
 pub record Follows (A : Type 0) (suite : SuiteState) (new : HostState) : Type 0 where
   pub turns : List (Turn A)
   pub accepted : AllAccepted suite turns

@@ -1,4 +1,4 @@
--- What a maker keeps of its calls.
+-- What a maker records of its calls.
 use Rattle.std.specs.Prelude.{List, [], Some}
 use Rattle.tai_status.specs.Label.{Tai64n}
 use Rattle.scan_table.specs.Slots.{Row}

@@ -1,4 +1,4 @@
-//! The resources of a part in a test: a world that answers at once, what waits for its process, and loggers that keep
+//! The resources of a part in a test: a world that responds at once, the reaper of its process, and loggers that keep
 //! what they take.
 use crate::meeting::{LOOKS, rest};
 use std::alloc::{AllocError, Global};
@@ -13,7 +13,7 @@ use svc_house::{News, Notifier, StartAnswer, World};
 use svc_relay::outlet::{Outlet, OutletFault};
 use tai_status::Label;
 
-/// How an actor's process stands, for its world and for what waits for it.
+/// The state of an actor's process, for its world and for its reaper.
 #[derive(Drop)]
 pub(crate) struct Process {
     is_dying: AtomicBool,
@@ -30,8 +30,8 @@ impl Process {
     }
 }
 
-/// A world whose process starts as soon as it is asked for and dies of TERM. Its start, its clock and its death have a
-/// second each, one after the other.
+/// A world whose process starts as soon as it is asked for, and dies after TERM. Its start, its clock and its death
+/// have one second each, one after the other.
 #[derive(Drop)]
 pub(crate) struct Actor {
     pub(crate) process: Arc<Process, Global>,
@@ -87,15 +87,15 @@ impl World for Actor {
     }
 }
 
-/// What waits for an actor's process: it dies a while after its signal, when its part rests, and only its own part's
-/// notifier is notified then.
+/// The reaper of an actor's process. The process dies a while after its signal, when its part rests, and then only its
+/// own part's notifier is notified.
 #[derive(Drop)]
 pub(crate) struct ActorReaper {
     pub(crate) process: Arc<Process, Global>,
     pub(crate) notifier: Arc<Notifier, Global>,
 }
 
-/// How many rests of 1 ms a process lives on after its signal.
+/// The number of rests of 1 ms for which a process lives on after its signal.
 const LAST_RESTS: u32 = 20;
 
 impl Reaper for ActorReaper {
@@ -113,7 +113,7 @@ impl Reaper for ActorReaper {
     }
 }
 
-/// What a pair's service writes: six bytes, at most four of them a read.
+/// What a pair's service writes: six bytes, at most four of them for each read.
 #[derive(Drop)]
 pub(crate) struct Said {
     pub(crate) bytes: [u8; 6],
@@ -130,7 +130,7 @@ impl Read for Said {
     }
 }
 
-/// What the loggers of a pair took, of which the last eight bytes are kept.
+/// What the loggers of a pair took. The last eight bytes are kept.
 #[derive(Drop)]
 pub(crate) struct Taken {
     // The bytes in their order, as the digits of a number.
@@ -144,7 +144,7 @@ impl Taken {
         }
     }
 
-    /// Whether these are the bytes that were taken, with zeros before them.
+    /// Returns whether these are the bytes that were taken, with zeros before them.
     pub(crate) fn is(&self, bytes: [u8; 8]) -> bool {
         self.bytes.load(Ordering::SeqCst) == u64::from_be_bytes(bytes)
     }
@@ -155,7 +155,7 @@ impl Taken {
     }
 }
 
-/// One life of a logger: it takes so many bytes, one at a time, and then fails.
+/// One life of a logger: it takes this many bytes, one at a time, and then fails.
 #[derive(Drop)]
 pub(crate) struct Life {
     taken: Arc<Taken, Global>,
@@ -180,7 +180,7 @@ impl Outlet for Life {
     }
 }
 
-/// The lives of a pair's logger: the first takes two bytes, the second all. There is no third.
+/// The lives of a pair's logger: the first takes two bytes, and the second takes all others. There is no third life.
 #[derive(Drop)]
 pub(crate) struct Lives {
     pub(crate) taken: Arc<Taken, Global>,

@@ -9,7 +9,7 @@ use svc_house::{ControlSender, Notifier};
 use svc_left::Opening;
 use tai_status::Label;
 
-/// Makes actors. The parts of the first slot get one gate, those of every other slot another.
+/// Makes actors. The parts of the first slot get one gate, and those of every other slot another one.
 #[derive(Drop)]
 pub(crate) struct Cast {
     pub(crate) alloc: Global,
@@ -37,7 +37,7 @@ impl Cast {
         })
     }
 
-    /// A cast with one gate, which sets the first flag and waits for the second.
+    /// Makes a cast with one gate, which sets the first flag and waits for the second.
     pub(crate) fn gated(
         alloc: Global,
         own: &Arc<Flag, Global>,
@@ -51,14 +51,14 @@ impl Cast {
         )
     }
 
-    /// A cast whose gates stand open.
+    /// Makes a cast whose gates are open.
     pub(crate) fn open(alloc: Global) -> Result<Cast, AllocError> {
         let flag = Flag::new(alloc)?;
         let in_vain = Flag::new(alloc)?;
         Cast::gated(alloc, &flag, &flag, &in_vain)
     }
 
-    /// A cast with two gates that wait for one another.
+    /// Makes a cast with two gates that wait for one another.
     pub(crate) fn crossed(alloc: Global, in_vain: &Arc<Flag, Global>) -> Result<Cast, AllocError> {
         let left = Flag::new(alloc)?;
         let right = Flag::new(alloc)?;

@@ -1,4 +1,4 @@
-//! The calls of a maker, as they are kept.
+//! The calls of a maker, as they are recorded.
 ghost use Rattle.std.specs.Prelude.{◌≡◌, IfOk};
 
 use scan_table::PartId;
@@ -40,7 +40,7 @@ impl Model for KeptCalls {
     ghost view = { λ calls. unless calls.is_lost (map call_of calls.asked.items) };
 }
 
-/// A copy of these bytes.
+/// Returns a copy of these bytes.
 fn copied(alloc: Global, bytes: &[u8]) -> Result<Vec<u8>, AllocError>
     ensures { IfOk result (λ copy. copy.items ≡ bytes.now) }
 {
@@ -55,7 +55,7 @@ impl KeptCalls {
     ghost use Rattle.svc_host.specs.Calls.{KeptTrace, MadePair, MadePart};
     ghost use Rattle.host_tests.specs.Kept.{call_of};
 
-    /// No calls yet.
+    /// Returns a record of no calls.
     pub fn new(alloc: Global) -> KeptCalls
         ensures { result ≡ Some [] }
     {
@@ -66,7 +66,7 @@ impl KeptCalls {
         }
     }
 
-    /// The calls in order, unless there was no memory for one.
+    /// Returns the calls in order, unless there was no memory for one.
     pub fn asked(&self) -> Option<&[Asked]> {
         if self.is_lost {
             None
@@ -75,7 +75,7 @@ impl KeptCalls {
         }
     }
 
-    /// Keeps a call.
+    /// Records a call.
     pub fn note(&mut self, asked: Asked)
         ensures { ExtendedWhileKept self.old self.new (call_of asked ∷ []) }
     {
@@ -84,7 +84,7 @@ impl KeptCalls {
         }
     }
 
-    /// Keeps that a part was asked for by this name.
+    /// Records that a part was asked for by this name.
     pub fn note_part(&mut self, id: PartId, name: &str, made: Result<Opening, PartFault>)
         ensures { ExtendedWhileKept self.old self.new (MadePart id name.now made ∷ []) }
     {
@@ -94,7 +94,7 @@ impl KeptCalls {
         }
     }
 
-    /// Keeps that a pair was asked for by this name.
+    /// Records that a pair was asked for by this name.
     pub fn note_pair(&mut self, slot: u64, name: &str, fault: Option<PartFault>)
         ensures { ExtendedWhileKept self.old self.new (MadePair slot name.now fault ∷ []) }
     {
@@ -104,7 +104,7 @@ impl KeptCalls {
         }
     }
 
-    /// Keeps that the trace of a part was to be kept.
+    /// Records that the trace of a part was to be kept.
     pub fn note_trace(&mut self, id: PartId, text: &[u8], kept: bool)
         ensures { ExtendedWhileKept self.old self.new (KeptTrace id text.now kept ∷ []) }
     {

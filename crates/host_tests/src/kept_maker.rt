@@ -1,4 +1,4 @@
-//! A maker that keeps what it was asked.
+//! A maker that records what it was asked.
 ghost use Rattle.std.specs.Prelude.{◌≡◌};
 ghost use Rattle.std.specs.Result.{result_err};
 ghost use Rattle.svc_host.specs.Resources.{begins_as};
@@ -14,7 +14,7 @@ use svc_host::{Maker, PartFault, PartResources};
 use svc_house::{ControlSender, Notifier};
 use svc_left::Opening;
 
-/// A cast that keeps its calls.
+/// A cast that records its calls.
 #[derive(Drop)]
 pub(crate) struct KeptMaker {
     cast: Cast,
@@ -24,7 +24,7 @@ pub(crate) struct KeptMaker {
 impl KeptMaker {
     ghost use Rattle.std.specs.Prelude.{◌≡◌, [], Some};
 
-    /// One that was asked nothing yet.
+    /// Makes one that was asked nothing yet.
     pub(crate) fn new(alloc: Global, cast: Cast) -> KeptMaker
         ensures { result.calls ≡ Some [] }
     {
@@ -34,13 +34,13 @@ impl KeptMaker {
         }
     }
 
-    /// Its calls in order, unless there was no memory for one.
+    /// Returns its calls in order, unless there was no memory for one.
     pub(crate) fn asked(&self) -> Option<&[Asked]> {
         self.calls.asked()
     }
 }
 
-/// How a part begins, or why it was not made.
+/// Returns how a part begins, or why it was not made.
 fn begins_as(
     made: &Result<PartResources<Actor, Meeting, ActorReaper>, PartFault>,
 ) -> Result<Opening, PartFault>
@@ -52,7 +52,7 @@ fn begins_as(
     }
 }
 
-/// Why a pair was not made.
+/// Returns why a pair was not made.
 fn fault_of(made: &Result<(Said, Lives), PartFault>) -> Option<PartFault>
     ensures { result ≡ result_err made.now }
 {

@@ -1,4 +1,4 @@
-//! What is left over of a start, by trees of processes as they are found after a svscan was killed.
+//! What is left over from a start, for trees of processes as they are found after a svscan was killed.
 use svc_left::{Intent, Leftover, Seen, find_any_here, find_leftover};
 
 // An svscan of session 7 intended a start at tick 100.
@@ -9,13 +9,13 @@ const INTENT: Intent = Intent {
     until: 110,
 };
 
-// The same of a service that begins a session of its own.
+// The same for a service that begins a session of its own.
 const APART: Intent = Intent {
     begins_session: true,
     ..INTENT
 };
 
-// A process that lives, of this number, parent, tick and session.
+// A process that lives, with this number, parent, tick and session.
 fn process(pid: u32, parent: u64, tick: u64, session: u64) -> Seen {
     Seen {
         pid,
@@ -46,7 +46,7 @@ fn here(pid: u32, parent: u64, tick: u64, session: u64) -> Seen {
     }
 }
 
-// What is older than the intent: the first process, one that takes what loses its parent, and the killed svscan.
+// The processes that are older than the intent: the first process, one that adopts orphans, and the killed svscan.
 fn old() -> [Seen; 3] {
     [
         process(1, 0, 0, 1),
@@ -87,7 +87,7 @@ fn no_process_is_left_over(rt: HostRuntime) {
 fn one_process_is_left_over(rt: HostRuntime) {
     let [first, reaper, svscan] = old();
     let own = Leftover::Process(50, 101);
-    // Its parent is the killed svscan still, the first process, or another one that takes it.
+    // Its parent is still the killed svscan, or the first process, or another one that adopts it.
     for parent in [1, 20, 30] {
         let all = [first, reaper, svscan, here(50, parent, 101, 7)];
         assert_eq!(rt; find_leftover(&INTENT, &all), own);
@@ -101,7 +101,7 @@ fn one_process_is_left_over(rt: HostRuntime) {
         here(50, 20, 101, 7),
     ];
     assert_eq!(rt; find_leftover(&INTENT, &all), own);
-    // It began a session of its own, as it should, or had not done so yet.
+    // It began a session of its own, as it should, or has not done so yet.
     for session in [50, 7] {
         let all = [first, reaper, here(50, 20, 101, session)];
         assert_eq!(rt; find_leftover(&APART, &all), own);
@@ -114,7 +114,7 @@ fn one_process_is_left_over(rt: HostRuntime) {
 #[test]
 fn each_neighbour_has_its_own_process(rt: HostRuntime) {
     let [first, reaper, _svscan] = old();
-    // Two neighbours were begun too, one of them with a child there and elsewhere.
+    // Two neighbours were started too, one of them with a child there and elsewhere.
     let all = [
         first,
         reaper,
@@ -125,11 +125,11 @@ fn each_neighbour_has_its_own_process(rt: HostRuntime) {
         process(62, 61, 102, 7),
     ];
     assert_eq!(rt; find_leftover(&INTENT, &all), Leftover::Process(50, 101));
-    // Nothing is left over of this one.
+    // Nothing is left over from this one.
     let [first, reaper, one, _, two, child, grandchild] = all;
     let others = [first, reaper, one, two, child, grandchild];
     assert_eq!(rt; find_leftover(&INTENT, &others), Leftover::Nobody);
-    // Two processes in the folder of one neighbour: one of them may have gone there.
+    // Two processes are in the folder of one neighbour: one of them may have gone there.
     let all = [
         first,
         reaper,
@@ -138,7 +138,7 @@ fn each_neighbour_has_its_own_process(rt: HostRuntime) {
         here(50, 20, 101, 7),
     ];
     assert_eq!(rt; find_leftover(&INTENT, &all), Leftover::Unsure(50));
-    // A process that left its folder, and has a child in that of a neighbour.
+    // A process has left its folder, and has a child in that of a neighbour.
     let all = [
         first,
         reaper,
@@ -151,7 +151,7 @@ fn each_neighbour_has_its_own_process(rt: HostRuntime) {
 #[test]
 fn it_is_not_sure_what_is_left_over(rt: HostRuntime) {
     let [first, reaper, _svscan] = old();
-    // It left the folder, and nothing else is known of it but the session.
+    // It left the folder, and nothing else is known about it except the session.
     let all = [first, reaper, process(50, 20, 101, 7)];
     assert_eq!(rt; find_leftover(&INTENT, &all), Leftover::Unsure(50));
     // It began a session of its own.

@@ -1,6 +1,6 @@
-//! Tests of the host of all services, of what no contract can say: that each service runs in a thread of its own, and
-//! that a part's mailbox, station, world and output are joined to it and to no other. And what a maker that keeps its
-//! calls was asked.
+//! Tests of the host of all services, for what no contract can say. Each service runs in a thread of its own. A part's
+//! mailbox, station, world and output are joined to it and to no other part. Other tests show what was asked of a maker
+//! that records its calls.
 #![tactic(auto)]
 
 #[cfg(test)]

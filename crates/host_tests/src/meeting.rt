@@ -5,7 +5,7 @@ use std::sync::{Arc, Wait};
 use std::time::Duration;
 use svc_house::{Gate, Notifier};
 
-/// How often a thread looks for another, with a rest of 1 ms after each look.
+/// The number of times that a thread looks for another, with a rest of 1 ms after each look.
 pub(crate) const LOOKS: u32 = 10_000;
 
 /// Rests 1 ms.
@@ -35,7 +35,7 @@ impl Flag {
         self.is_set.load(Ordering::SeqCst)
     }
 
-    /// Whether it was set before all looks were over.
+    /// Returns whether it was set before all looks were over.
     pub(crate) fn comes<R: Wait>(&self, rt: &R) -> bool {
         for _ in 0..LOOKS {
             if self.is_set() {
@@ -47,7 +47,7 @@ impl Flag {
     }
 }
 
-/// A gate that sets a flag and waits for another. It sets a third, where that does not come.
+/// A gate that sets a flag and waits for another one. If that is not set in time, the gate sets a third one.
 #[derive(Drop)]
 pub(crate) struct Meeting {
     own: Arc<Flag, Global>,

@@ -1,4 +1,4 @@
-//! What the maker of a host was asked, next to the parts that are there.
+//! What was asked of the maker of a host, in addition to the parts that it has.
 ghost use Rattle.std.specs.Prelude.{◌≡◌, [], Some, IfSome};
 ghost use Rattle.host_tests.specs.Kept.{HasScannedOnce, unasked};
 
@@ -13,7 +13,8 @@ use svc_host::{Host, Runtime};
 use svc_left::Opening;
 use tai_status::Label;
 
-/// A host whose maker was asked nothing, after its first scan: the maker was asked what the written rules of a scan ask.
+/// Returns a host after its first scan. Its maker was asked nothing before, and then what the written rules of a scan
+/// ask.
 fn first_scan<R: Runtime>(
     mut host: Host<KeptMaker, R>,
     rows: &[DirRow],
@@ -28,7 +29,7 @@ fn first_scan<R: Runtime>(
     }
 }
 
-/// A host over a maker that keeps its calls, from the first on, after its first scan.
+/// Returns a host after its first scan, over a maker that records its calls from the first one on.
 fn scanned_once<R: Runtime>(
     rt: R,
     alloc: Global,
@@ -45,7 +46,7 @@ fn scanned_once<R: Runtime>(
     }
 }
 
-/// Whether a part was asked for by this name, and begins by its row.
+/// Returns whether a part was asked for by this name, and begins by its row.
 fn is_part(asked: &Asked, part: PartId, name: &[u8]) -> bool {
     match asked {
         Asked::Part(id, own, Ok(Opening::ByRow)) => *id == part && own.as_slice() == name,
@@ -53,7 +54,7 @@ fn is_part(asked: &Asked, part: PartId, name: &[u8]) -> bool {
     }
 }
 
-/// Whether a pair was asked for by this name, and was made.
+/// Returns whether a pair was asked for by this name, and was made.
 fn is_pair(asked: &Asked, pair: u64, name: &[u8]) -> bool {
     match asked {
         Asked::Pair(slot, own, None) => *slot == pair && own.as_slice() == name,
@@ -61,7 +62,7 @@ fn is_pair(asked: &Asked, pair: u64, name: &[u8]) -> bool {
     }
 }
 
-/// Whether the last trace of a part was kept and then its resources were given back, each once.
+/// Returns whether the last trace of a part was kept and then its resources were given back, each once.
 fn was_given_back(asked: &[Asked], part: PartId) -> bool {
     let mut is_kept = false;
     let mut is_back = false;
@@ -85,8 +86,8 @@ fn was_given_back(asked: &[Asked], part: PartId) -> bool {
     is_back
 }
 
-/// A service and a pair: their maker is asked for each part once, by the name of its service, for the pair before its
-/// parts; and at the end for the last trace of each part, and then to take back what it handed out.
+/// A service and a pair. Their maker is asked for each part once, by the name of its service, and for the pair before
+/// its parts. At the end it is asked for the last trace of each part, and then to take back what it handed out.
 #[test]
 fn a_maker_is_asked_for_what_is_there(rt: HostRuntime) -> Result<(), Fail> {
     let alloc = rt.alloc();

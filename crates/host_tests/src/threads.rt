@@ -27,7 +27,7 @@ pub(crate) fn log_of(slot: u64, life: u64) -> PartId {
     }
 }
 
-/// The row of a service of this name.
+/// Returns the row of a service with this name.
 pub(crate) fn row(alloc: Global, name: &str, has_log: bool) -> Result<DirRow, AllocError> {
     Ok(DirRow {
         name: Name::new(String::from_str(alloc, name)?),
@@ -38,7 +38,7 @@ pub(crate) fn row(alloc: Global, name: &str, has_log: bool) -> Result<DirRow, Al
     })
 }
 
-/// The rows of services of these names.
+/// Returns the rows of services with these names.
 fn rows(alloc: Global, names: &[&str], has_log: bool) -> Result<Vec<DirRow>, AllocError> {
     let mut rows = Vec::new(alloc);
     for name in names {
@@ -63,7 +63,7 @@ impl Sight {
     }
 }
 
-/// A host over a cast after its first round, over these rows, where that started these parts.
+/// Returns a host over a cast after its first round, over these rows, if that started these parts.
 fn begin<R: Runtime>(
     rt: R,
     alloc: Global,
@@ -83,7 +83,7 @@ fn begin<R: Runtime>(
     if started { Some(host) } else { None }
 }
 
-/// Whether a part's status comes to show this.
+/// Returns whether a part's status shows this in time.
 fn comes<R: Runtime>(rt: &R, host: &mut Host<Cast, R>, part: PartId, sight: Sight) -> bool {
     for _ in 0..LOOKS {
         if host.status(part).is_some_and(|view| sight.is_in(view)) {
@@ -94,7 +94,7 @@ fn comes<R: Runtime>(rt: &R, host: &mut Host<Cast, R>, part: PartId, sight: Sigh
     false
 }
 
-/// Whether the loggers of a slot come to have taken these bytes.
+/// Returns whether the loggers of a slot have taken these bytes in time.
 fn arrives<R: Wait>(rt: &R, taken: &Taken, bytes: &[u8; 8]) -> bool {
     for _ in 0..LOOKS {
         if taken.is(*bytes) {
@@ -105,7 +105,7 @@ fn arrives<R: Wait>(rt: &R, taken: &Taken, bytes: &[u8; 8]) -> bool {
     false
 }
 
-/// Whether both come to have a process, and the second alone hears a letter to it.
+/// Returns whether both have a process in time, and only the second one hears a letter to it.
 fn both_run<R: Runtime>(rt: &R, host: &mut Host<Cast, R>, one: PartId, other: PartId) -> bool {
     comes(rt, host, one, Sight::Process)
         && comes(rt, host, other, Sight::Process)
@@ -114,7 +114,7 @@ fn both_run<R: Runtime>(rt: &R, host: &mut Host<Cast, R>, one: PartId, other: Pa
         && host.status(one).is_some_and(|view| view.want == Want::Up)
 }
 
-/// Ends all services, in order. How many there were.
+/// Ends all services, in order. Returns how many there were.
 pub(crate) fn finish<M: Maker + Drop, R: Runtime>(rt: &R, host: &mut Host<M, R>) -> Option<u64> {
     let count = host.running_parts().ok()?.len();
     for _ in 0..LOOKS {
@@ -126,7 +126,8 @@ pub(crate) fn finish<M: Maker + Drop, R: Runtime>(rt: &R, host: &mut Host<M, R>)
     None
 }
 
-/// How many services ended, of two that wait for one another at their starts. None: one of them waited in vain.
+/// Returns how many services ended, of two that wait for one another when they start. Returns None if one of them
+/// waited in vain.
 fn run_two<R: Runtime>(rt: R, alloc: Global, cast: Cast) -> Option<u64> {
     let (a, b) = (main_of(0, 1), main_of(2, 3));
     let rows = rows(alloc, &["a", "b"], false).ok()?;
@@ -136,7 +137,7 @@ fn run_two<R: Runtime>(rt: R, alloc: Global, cast: Cast) -> Option<u64> {
     if ran { Some(count) } else { None }
 }
 
-/// Two services wait for one another at their starts, so each is in a thread of its own.
+/// Two services wait for one another when they start, so each one is in a thread of its own.
 #[test]
 fn services_run_side_by_side(rt: HostRuntime) -> Result<(), Fail> {
     let in_vain = Flag::new(rt.alloc())?;
@@ -146,8 +147,8 @@ fn services_run_side_by_side(rt: HostRuntime) -> Result<(), Fail> {
     Ok(())
 }
 
-/// Posts two letters to a service that is at its gate, and opens the gate then. Whether the second found no room, and
-/// the first was heard.
+/// Posts two letters to a service that is at its gate, and then opens the gate. Returns whether there was no room for
+/// the second one, and the first one was heard.
 fn fills<R: Runtime>(
     rt: &R,
     host: &mut Host<Cast, R>,
@@ -162,7 +163,7 @@ fn fills<R: Runtime>(
     reported && comes(rt, host, part, Sight::WantsDown)
 }
 
-/// How many services ended, of one whose mailbox was filled. None: it was not reported so.
+/// Returns how many services ended after the mailbox of one was filled. Returns None if that was not reported.
 fn fill_one<R: Runtime>(
     rt: R,
     alloc: Global,
@@ -191,7 +192,7 @@ fn a_full_mailbox_is_reported(rt: HostRuntime) -> Result<(), Fail> {
     Ok(())
 }
 
-/// Posts `d` to each of these parts in turn: it comes to want down, and those after it go on wanting up.
+/// Posts `d` to each of these parts in turn. Each one then wants to be down, and those after it still want to be up.
 fn put_down<R: Runtime>(rt: &R, host: &mut Host<Cast, R>, parts: &[PartId]) -> bool {
     for place in 0..parts.len() {
         if host.post(parts[place], b'd').is_err() {
@@ -209,7 +210,7 @@ fn put_down<R: Runtime>(rt: &R, host: &mut Host<Cast, R>, parts: &[PartId]) -> b
     true
 }
 
-/// Whether these are two numbers, in any order.
+/// Returns whether these are two numbers, in any order.
 fn are_both(numbers: &[u64], one: u64, other: u64) -> bool {
     numbers == [one, other].as_slice() || numbers == [other, one].as_slice()
 }
@@ -222,7 +223,7 @@ struct Rounds {
     drops: Vec<u64>,
 }
 
-/// Makes rounds over these rows until so many parts were restarted and so many slots dropped.
+/// Makes rounds over these rows until this many parts were restarted and this many slots dropped.
 fn rounds_until<R: Runtime>(
     rt: &R,
     alloc: Global,
@@ -255,7 +256,7 @@ fn rounds_until<R: Runtime>(
     Some(done)
 }
 
-/// Whether each of these parts comes to have a process.
+/// Returns whether each of these parts has a process in time.
 fn all_come<R: Runtime>(rt: &R, host: &mut Host<Cast, R>, parts: &[PartId]) -> bool {
     for part in parts {
         if !comes(rt, host, *part, Sight::Process) {
@@ -265,8 +266,8 @@ fn all_come<R: Runtime>(rt: &R, host: &mut Host<Cast, R>, parts: &[PartId]) -> b
     true
 }
 
-/// Ends a part, and makes rounds until it comes back: whether it alone came back, in this life, and the old one is not
-/// there.
+/// Ends a part, and makes rounds until it comes back. Returns whether only that part came back, in this life, and the
+/// host no longer has the old one.
 fn comes_back<R: Runtime>(
     rt: &R,
     alloc: Global,
@@ -290,8 +291,8 @@ fn comes_back<R: Runtime>(
         && comes(rt, host, again, Sight::Process)
 }
 
-/// Ends these parts, and makes rounds over no rows until two slots went: whether they are these, and the maker was
-/// reported to forget just these.
+/// Ends these parts, and makes rounds over no rows until two slots were dropped. Returns whether it was these slots,
+/// and the maker was asked to forget exactly these.
 fn are_dropped<R: Runtime>(
     rt: &R,
     alloc: Global,
@@ -314,7 +315,7 @@ fn are_dropped<R: Runtime>(
     went && host.ask_maker(|cast| are_both(&cast.forgotten, one, other))
 }
 
-/// Two pairs, from their first life to the end: what each part is joined to is its own.
+/// Runs two pairs from their first life to the end. Returns whether each part is joined only to what is its own.
 fn live<R: Runtime>(
     rt: &R,
     alloc: Global,
@@ -339,7 +340,7 @@ fn live<R: Runtime>(
         )
 }
 
-/// How many services were left at the end of two pairs' lives. None: something went wrong.
+/// Returns how many services were left at the end of two pairs' lives. Returns None if something went wrong.
 fn run_pairs<R: Runtime>(rt: R, alloc: Global, cast: Cast, taken: [&Taken; 2]) -> Option<u64> {
     let parts = [main_of(0, 1), log_of(0, 2), main_of(3, 4), log_of(3, 5)];
     let rows = rows(alloc, &["a", "b"], true).ok()?;
@@ -349,8 +350,8 @@ fn run_pairs<R: Runtime>(rt: R, alloc: Global, cast: Cast, taken: [&Taken; 2]) -
     if lived { Some(count) } else { None }
 }
 
-/// Two pairs: each part hears its own letters, shows its own state and comes back alone, and each pair's loggers get
-/// what its own service wrote, the second going on where the first failed.
+/// Two pairs: each part hears its own letters, shows its own state and comes back alone. Each pair's loggers get what
+/// its own service wrote, and the second one continues after the point at which the first one failed.
 #[test]
 fn each_part_has_its_own(rt: HostRuntime) -> Result<(), Fail> {
     let cast = Cast::open(rt.alloc())?;

@@ -5,7 +5,7 @@ use Rattle.svc_mail.specs.declared.sender.Sender.{Sender}
 use Rattle.svc_mail.specs.Ends.{heard_by, number_of, posted, room_of, seen_by, senders_of}
 use Rattle.svc_mail.specs.History.{row_of, IsHistory, StartsWith, IsAmong}
 
--- The number of this sender among so many senders, the number of letters for which there is room, what this sender
+-- The number of this sender, how many senders there are, and for how many letters there is room; also what this sender
 -- posted, and what it saw and heard of.
 pub record Mail : Type 0 where
   pub number : ℕ

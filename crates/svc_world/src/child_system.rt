@@ -51,8 +51,7 @@ pub trait ChildSystem {
         ensures calls { ExtendedWhileKept (calls self.old) (calls self.new) (SoughtLeftover place.now result ∷ []) }
         ensures number { HasNumber result };
 
-    /// Adopts the process with this number, which began at this tick: from now on [`death`](ChildSystem::death) looks
-    /// for its death.
+    /// Adopts the process with this number, which began at this tick: from now on `death` looks for its death.
     fn adopt(&mut self, pid: u32, tick: u64)
         requires { 0 < pid }
         ensures calls { ExtendedWhileKept (calls self.old) (calls self.new) (Adopted pid tick ∷ []) };

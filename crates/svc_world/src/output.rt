@@ -154,7 +154,7 @@ fn folder_fault(fault: FifoFault) -> FolderFault {
     }
 }
 
-/// Checks that the folder of this path can hold files, by making one at the path now.
+/// Checks that the folder of this path can hold files, by making one at the path and removing it again.
 fn holds_files(files: &HostRuntime, path: &str) -> io::Result<()> {
     let mut how = OpenOptions::new();
     how.write(true).create_new(true);

@@ -70,9 +70,9 @@ pub enum Begun {
     Unserved(Cause),
     /// Another svscan is served there.
     Locked,
-    /// The folder of the services can't be read. svscan ends.
+    /// The folder of the services can't be read. svscan exits.
     Unread(Cause),
-    /// The system refused something without which no service can be kept running. svscan ends.
+    /// The system refused something without which no service can be kept running. svscan exits.
     Refused(Cause),
 }
 

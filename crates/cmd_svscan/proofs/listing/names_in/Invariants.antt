@@ -5,7 +5,7 @@ use Rattle.std.specs.List.{All}
 use Rattle.cmd_svscan.specs.Listing.{IsListed, count_unread, read_of}
 use Rattle.cmd_svscan.proofs.listing.names_in.Given as goal
 
--- of the entries so far those are named that could be read, and the others counted
+-- the entries so far that could be read are named, and the others are counted
 abbrev pub invariant-loop-entry : goal.invariant-loop-entry
 invariant-loop-entry g l = record {
   listed : All IsListed l.yielded;

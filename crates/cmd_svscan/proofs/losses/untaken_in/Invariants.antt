@@ -2,6 +2,6 @@ use Rattle.std.proofs.Common.{◌≡◌, take}
 use Rattle.cmd_svscan.specs.Losses.{untaken_in}
 use Rattle.cmd_svscan.proofs.losses.untaken_in.Given as goal
 
--- those so far
+-- the parts so far
 abbrev pub invariant-loop-part : goal.invariant-loop-part
 invariant-loop-part g l = l.untaken.items ≡ untaken_in l.host.table.slots (take l.part-index l.losses)
