@@ -21,9 +21,9 @@ sooner_of (Some one) (Some other) = Some (min one other)
 abbrev pub after : (time wait : ℕ) → ℕ
 after time wait = min (time + wait) (2 ^ 64 - 1)
 
--- When the door looks again at a listener that gave no connection. If it has none, an event will announce the next one.
--- If the call was interrupted, it is repeated at once. If there are no descriptors or no memory for the connection, it
--- is tried again after 100 ms.
+-- When the door looks again at a listener that gave no connection. If there is none, an event will announce the next
+-- one. If the call was interrupted, or the connection was aborted, the call is repeated at once. After any other fault,
+-- such as a lack of descriptors or memory, it is repeated after 100 ms.
 abbrev pub refused_until : ErrorKind → (now : ℕ) → Option ℕ
 refused_until WouldBlock now = None
 refused_until Interrupted now = Some now
