@@ -113,13 +113,13 @@ said_by (OfSuite suite) line = stepping suite (suite_event_from {A = Unit {0}} (
 abbrev pub said : Past → List ℕ → Result Said Why
 said past line = if nat_lt 65536 (length line) then Err why.Line else said_by past line
 
--- A line can lack nothing but memory: it spells an event, and an event at a part is not refused.
+-- Memory can run out at a line: the line spells an event, and if the event is at a part, it is not refused.
 abbrev pub IsRight : {A : Type 0} → SuiteState → Result (SuiteEvent A) EventFault → Type 0
 IsRight suite (Err fault) = ⊥
 IsRight suite (Ok (Scan rows label)) = ⊤
 IsRight {A} suite (Ok (At part event)) = refused_step (refusal {A = A} suite (At part event)) ≡ None
 
--- The same, after what the lines said so far. A line of a service never lacks memory.
+-- The same, after what the lines said so far. Memory never runs out at a line of a service.
 abbrev pub MayWantMemory : Past → List ℕ → Type 0
 MayWantMemory Nothing line =
     (spells_scan (fields line) ≡ true) × IsRight (new_suite 0 256) (suite_event_from {A = Unit {0}} (fields line))

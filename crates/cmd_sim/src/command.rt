@@ -92,8 +92,8 @@ fn show_table<W: Write, E: Write>(writer: &mut Output<W>, faults: &mut Output<E>
 /// words are wrong.
 ///
 /// Returns the exit status: 0; 100 if a line is refused, and for wrong words; 111 if it is out of memory, or if the
-/// reader or the writer fails. A refused line is reported with its number, and a failure with its cause. Copies of the
-/// allocator must need no memory, as those of the program's own.
+/// reader or the writer fails. A refused line is reported with its number, and a failure with its cause. A copy of the
+/// allocator needs no memory, as with the program's own.
 pub fn run_sim<A: Allocator + Clone + Copy, D: Read, W: Write, E: Write>(
     alloc: A,
     words: &[&str],
