@@ -4,7 +4,7 @@ use Rattle.std.specs.Map.{lookup}
 use Rattle.cmd_base.specs.declared.command.Command.{Command}
 use Rattle.cmd_base.specs.declared.command.Command.TheVariants as command
 
--- each word that names a command, with the command
+-- each word that names a command, together with the command
 abbrev pub commands : List (List ℕ × Command)
 commands = (
     (codes "svscan", command.Svscan) ∷
@@ -25,6 +25,6 @@ commands = (
     (codes "--help", command.Help) ∷
     (codes "--version", command.Version) ∷ [])
 
--- the command that a word names
+-- the command with this word
 abbrev pub command_named : List ℕ → Option Command
 command_named word = lookup (bytes_eq word) commands

@@ -1,4 +1,4 @@
--- The devices of a command: what it reads, what it writes, and where it reports its faults.
+-- The devices of a command: those that it reads, writes, and reports its faults to.
 use Rattle.std.specs.Prelude.{◌≡◌}
 use Rattle.tai_status.specs.Counted.{Device, Works}
 

@@ -5,8 +5,8 @@ ghost use Rattle.cmd_base.specs.Times.{millis_between};
 use std::time::{Clock, Duration, SystemTime, UNIX_EPOCH};
 use tai_status::{Label, TimeSource};
 
-/// The system's clock. Where it can't be read it repeats its last reading, at first the label of Unix
-/// second 0. It says nothing to contracts of what it gave.
+/// The system's clock. If it can't be read it repeats its last reading, and at first the label of Unix second 0. It
+/// does not show contracts what it gave.
 #[derive(Drop)]
 pub struct SystemClock<R: Clock + Drop> {
     runtime: R,
@@ -14,7 +14,7 @@ pub struct SystemClock<R: Clock + Drop> {
 }
 
 impl<R: Clock + Drop> SystemClock<R> {
-    /// The clock of this runtime.
+    /// Returns the clock of this runtime.
     pub fn new(runtime: R) -> SystemClock<R> {
         SystemClock {
             runtime,
@@ -23,7 +23,7 @@ impl<R: Clock + Drop> SystemClock<R> {
     }
 }
 
-/// How many milliseconds it is from one reading of the running clock to another; 0 if that is an earlier one.
+/// Returns how many milliseconds passed from one reading of the running clock to another; 0 if the second is earlier.
 pub fn millis_between(begin: Duration, now: Duration) -> u64
     ensures { result ≡ millis_between begin now }
 {
@@ -33,7 +33,7 @@ pub fn millis_between(begin: Duration, now: Duration) -> u64
     }
 }
 
-/// The label of the system's present time, where it can be read.
+/// Reads the label of the system's present time, if the clock can be read.
 fn read_clock<R: Clock>(runtime: &R) -> Option<Label> {
     let now = SystemTime::now(runtime).ok()?;
     let since = now.duration_since(UNIX_EPOCH).ok()?;

@@ -23,7 +23,7 @@ pub enum Command {
 }
 
 impl Command {
-    /// The command that a word names. `--help` and `--version` name two as well.
+    /// Returns the command with this name. `--help` and `--version` are names of commands as well.
     pub fn named(word: &str) -> Option<Command>
         ensures { result ≡ command_named word.now }
     {

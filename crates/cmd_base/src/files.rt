@@ -5,7 +5,7 @@ use std::alloc::Allocator;
 use std::io::Read;
 use std::{fs, io};
 
-/// What holds files. Contracts see what a file holds, and why a read fails, where it says that.
+/// A place that holds files. Contracts see what a file holds, and why a read fails, if the place shows that.
 pub trait FileSource {
     ghost use Rattle.std.specs.Prelude.{ℕ, List, Option, None};
     ghost use Rattle.std.specs.IoError.{error_kind};
@@ -15,17 +15,17 @@ pub trait FileSource {
     // the bytes of the file at a path
     ghost file_at: { Self → List ℕ → Option (List ℕ) } = { λ _ _. None };
 
-    // the kind of error that a read of the file at a path gives, where it fails
+    // the kind of error of a read of the file at a path, if that read fails
     ghost fault_at: { Self → List ℕ → Option ErrorKind } = { λ _ _. None };
 
-    /// All bytes of the file at a path.
+    /// Reads all bytes of the file at a path.
     fn read_file<A: Allocator>(&self, alloc: A, path: &str) -> io::Result<Vec<u8, A>>
         ensures known { IfOk result (λ bytes. IsKnown (file_at self.now path.now) bytes.items) }
         ensures missing { IfErr result (λ fault. IsMissed fault (file_at self.now path.now)) }
         ensures fault { IfErr result (λ fault. IsKnown (fault_at self.now path.now) (error_kind fault)) };
 }
 
-/// The system's own files. They say nothing to contracts.
+/// The system's own files. They show nothing to contracts.
 impl FileSource for HostRuntime {
     fn read_file<A: Allocator>(&self, alloc: A, path: &str) -> io::Result<Vec<u8, A>> {
         let mut bytes = Vec::new(alloc);

@@ -1,5 +1,5 @@
-//! What every command uses: the table of the commands with their pages, how a command reports a fault and with which
-//! status it exits, the files that it reads (a service's status file among them), and the system's clock.
+//! What every command uses: the table of the commands with their pages, the reports of faults and the exit statuses,
+//! the files that commands read (a service's status file among them), and the system's clock.
 #![tactic(auto)]
 
 mod clock;

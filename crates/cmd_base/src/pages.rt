@@ -4,7 +4,7 @@ ghost use Rattle.cmd_base.specs.Pages.{page};
 
 use crate::command::Command;
 
-/// The page of a command, one line: which words it takes.
+/// Returns the page of a command, which is one line: the words that it takes.
 pub fn page_of(command: Command) -> &'static [u8]
     ensures page { result.now ≡ page command }
 {

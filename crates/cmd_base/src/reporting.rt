@@ -1,4 +1,4 @@
-//! How a command reports its faults, and with which status it ends.
+//! How a command reports its faults, and the status with which it exits.
 ghost use Rattle.std.specs.Prelude.{◌≡◌, ◌+◌, ◌≤◌, ◌++◌, decimal, OnOk, OnErr};
 ghost use Rattle.arrayvec.specs.ArrayString.{array_string_len};
 ghost use Rattle.tai_status.specs.Causes.{cause_note};
@@ -12,16 +12,16 @@ use itoa::Buffer;
 use std::io::Write;
 use tai_status::{Block, Cause, DeviceFault, Output};
 
-/// The status of a command that did what it was asked.
+/// The exit status of a command that did what it was asked.
 pub const DONE: u8 = 0;
 
-/// The status of wrong words, and of input that is refused.
+/// The exit status for wrong words, and for input that is refused.
 pub const REFUSED: u8 = 100;
 
-/// The status of trouble: out of memory, or a fault of a device or a file.
+/// The exit status for trouble: out of memory, or a fault of a device or a file.
 pub const TROUBLE: u8 = 111;
 
-/// Prints a text where faults go. A fault of that writer is ignored.
+/// Prints a text to the writer for faults. A fault of that writer is ignored.
 pub fn print_fault<E: Write>(faults: &mut Output<E>, text: &[u8])
     ensures { Reports faults.old faults.new text.now }
 {
@@ -40,7 +40,7 @@ pub fn report<E: Write>(faults: &mut Output<E>, text: &[u8], status: u8) -> u8
     status
 }
 
-/// Reports a fault in three parts, as one write if they are short, and returns its status. A fault of that writer is
+/// Reports a fault in three parts, with one write if they are short, and returns its status. A fault of that writer is
 /// ignored.
 pub fn report_parts<E: Write>(
     faults: &mut Output<E>,
@@ -76,7 +76,7 @@ fn write_parts<W: Write>(
     line.flush(writer)
 }
 
-/// The end of a line that says why something was refused: `: `, the words of the cause, and the newline.
+/// Returns the end of a line that says why something was refused: `: `, the words of the cause, and the newline.
 pub fn cause_note(cause: Cause) -> ArrayString<64>
     ensures { result.bytes ≡ cause_note cause }
 {
@@ -87,7 +87,7 @@ pub fn cause_note(cause: Cause) -> ArrayString<64>
     note
 }
 
-/// The end of a line that says that a device failed.
+/// Returns the end of a line that reports a failed device.
 fn device_note(cause: Option<Cause>) -> ArrayString<64>
     ensures { result.bytes ≡ device_note cause }
 {
@@ -99,8 +99,8 @@ fn device_note(cause: Option<Cause>) -> ArrayString<64>
     note
 }
 
-/// Reports that a device failed, with the cause of its last fault, and returns the status of that. The name of the
-/// command comes with its `: `.
+/// Reports that a device failed, with the cause of its last fault, and returns the status for that. The command's name
+/// must include its `: `.
 pub fn report_device<E: Write>(
     faults: &mut Output<E>,
     command: &[u8],
@@ -114,7 +114,7 @@ pub fn report_device<E: Write>(
     report_parts(faults, command, what, note.as_bytes(), TROUBLE)
 }
 
-/// Reports that a command does not take these words, with its page, and returns the status of that.
+/// Reports that a command does not take these words, with its page, and returns the status for that.
 pub fn usage<E: Write>(faults: &mut Output<E>, command: Command) -> u8
     ensures status { result ≡ 100 }
     ensures reported { Reports faults.old faults.new (usage_text command) }

@@ -1,4 +1,4 @@
-//! The status file of a service on this system, and what is reached in an open folder.
+//! The status file of a service on this system, and paths into an open folder.
 ghost use Rattle.std.specs.Prelude.{◌≡◌, ◌+◌, ◌≤◌, length};
 ghost use Rattle.cmd_base.specs.Paths.{path_by_descriptor};
 
@@ -12,7 +12,8 @@ use tai_status::STATUS_FRONT;
 /// The first bytes of a status file, which are enough to read it (`tai_status::decode_front`).
 pub type StatusFront = ArrayVec<u8, STATUS_FRONT>;
 
-/// The first bytes of the status file at a path. What is there and is no file is not opened: that could wait.
+/// Reads the first bytes of the status file at a path. If something other than a file is there, it is not opened: that
+/// could wait.
 pub fn read_status_front<R: Files<File = File>>(
     runtime: &R,
     path: &str,
@@ -26,7 +27,7 @@ pub fn read_status_front<R: Files<File = File>>(
     Ok(front)
 }
 
-/// The path of a name in the folder that is open under a descriptor.
+/// Returns the path of a name in the folder that is open under a descriptor.
 pub fn path_by_descriptor<const N: usize>(descriptor: u32, name: &str) -> ArrayString<N>
     requires { length name.now + 35 ≤ N }
     ensures { result.bytes ≡ path_by_descriptor descriptor name.now }

@@ -23,12 +23,12 @@ pub record ShowsRead (len : ℕ) (reader reads : Device) (title : TitleParts) : 
 abbrev pub WritesTitle : ℕ → (reader : Device) (old new : Device) → Type 0
 WritesTitle len reader old new = (input : List ℕ) → reader.bytes ≡ Some input → Wrote old new (title_line len input)
 
--- A front of that was written.
+-- A prefix of the title and the newline was written.
 abbrev pub WritesTitleFront : ℕ → (reader : Device) (old new : Device) → Type 0
 WritesTitleFront len reader old new =
     (input : List ℕ) → reader.bytes ≡ Some input → WroteFront old new (title_line len input)
 
--- What is reported of a fault; of a device that failed, the cause of its last fault too.
+-- The report of a fault. For a device that failed, it includes the cause of the last fault.
 abbrev pub proctitle_report : ProctitleFault → (reader writer : Device) → List ℕ
 proctitle_report fault.TooShort reader writer = codes "readproctitle: TooShort" ++ 10 ∷ []
 proctitle_report fault.OutOfMemory reader writer = codes "readproctitle: OutOfMemory" ++ 10 ∷ []
@@ -41,8 +41,8 @@ proctitle_status fault.OutOfMemory = 111
 proctitle_status fault.Read = 111
 proctitle_status fault.Write = 111
 
--- Why there is no title of this length: it is under 5 bytes, and nothing was read; there was no memory; the reader
--- failed; or the writer did, after a front of the title of the whole input. But for that nothing is written.
+-- Why there is no title of this length. It is under 5 bytes, and nothing was read; there was no memory; the reader
+-- failed; or the writer failed, after a prefix of the title of the whole input. In all other cases nothing is written.
 abbrev pub NoTitle : ℕ → ProctitleFault → (reader reads : Device) (writer writes : Device) → Type 0
 NoTitle len fault.TooShort reader reads writer writes = (len < 5) × (reads ≡ reader) × (writes ≡ writer)
 NoTitle len fault.OutOfMemory reader reads writer writes = writes ≡ writer
@@ -56,19 +56,19 @@ pub record ShowsInput (len : ℕ) (old new : Console) : Type 0 where
   pub written : WritesTitle len old.reader old.writer new.writer
   pub well : EndsWell old new
 
--- There is no title, or not the whole of it, and it is reported why.
+-- There is no title, or not the whole of it. The reason is reported.
 pub record ReportsWhy (len status : ℕ) (old new : Console) : Type 0 where
   pub fault : ProctitleFault
   pub cause : NoTitle len fault old.reader new.reader old.writer new.writer
   pub reported : Reports old.faults new.faults (proctitle_report fault new.reader new.writer)
   pub status_is : status ≡ proctitle_status fault
 
--- The title of this length, by the status. A title under 5 bytes is always refused.
+-- The title of this length, by the exit status. A title under 5 bytes is always refused.
 pub record ShowsTitle (len status : ℕ) (old new : Console) : Type 0 where
   pub short : len < 5 → status ≡ 100
   pub ends : ((status ≡ 0) × ShowsInput len old new) ⊎ ReportsWhy len status old new
 
--- `readproctitle` shows a title of the length of its last word.
+-- `readproctitle` shows a title with the length of its last word.
 abbrev pub TitleEnds : (words : List (List ℕ)) (status : ℕ) (old new : Console) → Type 0
 TitleEnds words status old new = MatchOption (slice_get words (length words - 1))
     (RefusesWords command.Readproctitle status old new) (λ word. ShowsTitle (length word) status old new)

@@ -1,4 +1,4 @@
-//! The commands that read an input to its end and write what becomes of it: `tai64n` and `readproctitle`.
+//! The commands that read an input to its end and write a result: `tai64n` and `readproctitle`.
 #![tactic(auto)]
 
 mod proctitle;

@@ -23,7 +23,7 @@ pub enum ProctitleFault {
     Write,
 }
 
-/// A title of this length, all dots.
+/// Returns a title of this length that is all dots.
 fn begin_title<A: Allocator + Clone>(alloc: A, len: usize) -> Result<Title<A>, ProctitleFault>
     ensures ok { IfOk result (λ title. title ≡ new_title len) }
     ensures short { IsErrOf result ProctitleFault.TooShort ↔ (len < 5) }
@@ -36,7 +36,7 @@ fn begin_title<A: Allocator + Clone>(alloc: A, len: usize) -> Result<Title<A>, P
     }
 }
 
-/// The title of this length after the whole input.
+/// Returns the title of this length after the whole input.
 fn read_title<A: Allocator + Clone, D: Read>(
     alloc: A,
     len: usize,
@@ -87,7 +87,7 @@ fn write_title<A: Allocator + Clone, W: Write>(
     }
 }
 
-/// Writes the title of this length of the whole input.
+/// Writes the title of this length for the whole input.
 fn show_title<A: Allocator + Clone, D: Read, W: Write>(
     alloc: A,
     len: usize,
@@ -104,7 +104,7 @@ fn show_title<A: Allocator + Clone, D: Read, W: Write>(
     write_title(&title, writer)
 }
 
-/// Reports why there is no title, or not the whole of it, and returns the status of that.
+/// Reports why there is no title, or not the whole of it, and returns the exit status for that.
 fn report_untitled<D: Read, W: Write, E: Write>(
     fault: ProctitleFault,
     reader: &Input<D>,
@@ -126,7 +126,7 @@ fn report_untitled<D: Read, W: Write, E: Write>(
     }
 }
 
-/// Shows the title of this length of the whole input, or says why there is none.
+/// Shows the title of this length for the whole input, or reports why there is none.
 fn run_title<A: Allocator + Clone, D: Read, W: Write, E: Write>(
     alloc: A,
     len: usize,
@@ -143,11 +143,12 @@ fn run_title<A: Allocator + Clone, D: Read, W: Write, E: Write>(
     }
 }
 
-/// The command `readproctitle`: reads its input to the end, and prints the title of it and a newline
-/// (<https://cr.yp.to/daemontools/readproctitle.html>). A title is as long as the last word, in bytes:
-/// three dots, and the last bytes of the input but for NULs, after dots if these are too few.
-/// Returns the status: 0; 100 without a word, and for one of fewer than 5 bytes; 111 if it is out of memory
-/// and for a fault of the reader or the writer, which is reported with its cause.
+/// The command `readproctitle`: reads its input to the end, and prints its title and a newline
+/// (<https://cr.yp.to/daemontools/readproctitle.html>).
+///
+/// A title is as long as the last word, in bytes. It is three dots, and the last bytes of the input without NULs, after
+/// more dots if these are too few. Returns the exit status: 0; 100 without a word, and for a last word under 5 bytes;
+/// 111 if it is out of memory, or if the reader or the writer fails. A failure is reported with its cause.
 pub fn run_readproctitle<A: Allocator + Clone, D: Read, W: Write, E: Write>(
     alloc: A,
     words: &[&str],

@@ -7,10 +7,11 @@ use cmd_base::{Command, DONE, report_device, usage};
 use std::io::{Read, Write};
 use tai_status::{Input, Output, StampFault, TimeSource, stamp_lines};
 
-/// The command `tai64n`: writes each line of the reader behind the text of a label and a space, with
-/// one reading of the clock for each line, at its first byte
-/// (<https://cr.yp.to/daemontools/tai64n.html>). It takes no words. Returns the status: 0; 100 for wrong
-/// words; 111 for a fault of the reader or the writer, which is reported with its cause.
+/// The command `tai64n`: writes each line of the reader after the text of a label and a space. It reads the clock once
+/// for each line, at its first byte (<https://cr.yp.to/daemontools/tai64n.html>).
+///
+/// It takes no words. Returns the exit status: 0; 100 for wrong words; 111 for a fault of the reader or the writer,
+/// which is reported with its cause.
 pub fn run_tai64n<D: Read, W: Write, E: Write, C: TimeSource>(
     words: &[&str],
     reader: &mut Input<D>,
@@ -44,7 +45,7 @@ fn stamp_input<D: Read, W: Write, E: Write, C: TimeSource>(
     }
 }
 
-/// Reports which device failed, and why, and returns the status of that.
+/// Reports which device failed, and why, and returns the exit status for that.
 fn report_stamping<D: Read, W: Write, E: Write>(
     fault: StampFault,
     reader: &Input<D>,

@@ -1,4 +1,4 @@
--- The answers to one line.
+-- The answer to one line.
 use Rattle.std.proofs.Common.{◌≡◌, ℕ, ◌+◌, ◌<◌, ◌≤◌, Bool, true, false, List, [], ◌∷◌, ◌++◌, length, map, take, get_or}
 use Rattle.std.proofs.Common.{Option, Some, None, Result, Ok, Err, refl, sym, ap, ◌∙◌, subst, arith, codes}
 use Rattle.std.specs.Prelude.{flat_map, bytes_eq, nat_lt, if◌then◌else◌, IsOk}
@@ -177,7 +177,7 @@ stepped_so suite after subject event lines is taken goes said_so =
     (sym said_so)
     ∙ ap {B = Result Said Why} (λ (suite : SuiteState). Ok (record { texts = lines; past = OfSuite suite })) (sym goes)
 
--- Want of memory at a suite's line
+-- A lack of memory at a suite's line
 
 pub read_missed : {A : Type 0} (suite : SuiteState) (subject : Result (SuiteEvent A) EventFault)
     (fault : SuiteLineFault)
@@ -229,7 +229,7 @@ pub right_ok : {A : Type 0} (suite : SuiteState) (subject : Result (SuiteEvent A
 right_ok suite (Err fault) right = absurd right
 right_ok suite (Ok event) right = refl
 
--- The line of a scan reports no event at a part.
+-- The line of a scan is no event at a part.
 either_right : {A : Type 0} (suite : SuiteState) (rest : List (List ℕ)) (other : Result (SuiteEvent A) EventFault)
     (b : Bool) → b ≡ true
     → IsOk (if b then scan_from {A = A} rest else other) → IsRight suite (if b then scan_from {A = A} rest else other)
@@ -278,7 +278,7 @@ none_missed {A} past line now stands is lacks = held past (subst (λ (t : Subjec
     held (Service h) stands = absurd stands
     held (OfSuite subject) stands = absurd stands
 
--- Memory is wanting at lines of suites alone.
+-- Memory can be lacking only at lines of suites.
 pub lacks_suite : (past : Past) (line : List ℕ) → MayWantMemory past line → is_suite_line past line ≡ true
 lacks_suite Nothing line lacks = lacks.0
 lacks_suite (Service h) line lacks = absurd lacks
@@ -329,7 +329,7 @@ pub said-suite : (A : Type 0) (suite : SuiteState) (line : List ℕ) → length 
     → said (OfSuite suite) line ≡ stepping suite (suite_event_from {A = A} (fields line))
 said-suite A suite line short = said-short (OfSuite suite) line short ∙ stepping_any A suite (fields line)
 
--- After a suite's line come suite's lines.
+-- The lines after a suite's line are lines of the suite.
 
 abbrev past_in : Result Said Why → Past
 past_in (Ok answer) = answer.past
@@ -409,7 +409,7 @@ lines_more bytes texts outs i out old more new within at so_far here put =
     ∙ flat_map_more texts [] (take i outs) (get_or outs i out)
     ∙ ap (flat_map texts) (sym (take_more outs i out within))
 
--- As what the code holds goes on
+-- When the value in the code changes
 
 pub service_refused : {A : Type 0} (past : Past) (line : List ℕ) (machine : State) (now : Subject A) (why : Why)
     → Stands past now

@@ -92,7 +92,7 @@ free suite (At id event) =
 free suite (Scan rows label) = λ none.
     ap fault_of_scan (named_numbers suite.table rows (order_fault rows) (named_order rows) none)
 
--- What is said of a suite's line
+-- The meaning of a suite's line
 
 said_of : (suite : SuiteState) (line : List ℕ) → said (OfSuite suite) line ≡ stepping suite (event_of_line line)
 said_of suite line =
@@ -317,7 +317,7 @@ front_run (line ∷ lines) later scans =
       answers_are = run.answers_are ∙ ap suite_answers (sym same);
     }
 
--- The lines of a text that ends with a newline come first.
+-- The lines of a text that ends in a newline come first.
 
 record HasLine (text later : List ℕ) : Type 0 where
   pub line : List ℕ
@@ -364,7 +364,7 @@ printed_more (line ∷ lines) rest =
     ∙ sym (append_assoc first (texts_of (printed lines)) (texts_of rest))
     ∙ ap (λ (t : List (List ℕ)). t ++ texts_of rest) (sym whole)
 
--- How it ends, where the writer or the reader failed, or memory was missed
+-- How it ends if the writer or the reader failed, or memory ran out
 
 part_run : (before after held holds : Option (List ℕ)) → AnswersPart before after held holds
     → FirstLinesRun before after held holds

@@ -90,7 +90,7 @@ SoFar-none before held = record {
   suite = λ line later is. is;
 }
 
--- A line further.
+-- One more line.
 pub SoFar-line : {before now held holds holds2 : Option (List ℕ)} {pending waiting waiting2 : List ℕ} {B : Type 0}
     {subject subject2 : Subject B} {count : ℕ}
     (s : SoFar before now held holds pending waiting subject count) (line rest : List ℕ) → pending ≡ line ++ 10 ∷ rest
@@ -178,7 +178,7 @@ SoFar-flush s w = record {
   suite = s.suite;
 }
 
--- A write failed, after a front of the answers that wait and of those that come next.
+-- A write failed, after a prefix of the answers that wait and of those that come next.
 front_of : {before now held holds holds2 : Option (List ℕ)} {pending waiting : List ℕ} {B : Type 0}
     {subject : Subject B}
     {count : ℕ}
@@ -277,7 +277,7 @@ SoFar-filled {before} {now = now} {after = after} {old = old} {new = new} s f = 
 take-length_append : (xs ys : List (List ℕ)) (n : ℕ) → n ≡ length xs → take n (xs ++ ys) ≡ xs
 take-length_append xs ys n e = rw e (take-append-le (length xs) xs ys (omega arith) ∙ take-length xs)
 
--- What was read is the lines so far and what is pending.
+-- What was read is the lines so far, followed by the pending bytes.
 pub SoFar-near : {before now held holds : Option (List ℕ)} {pending waiting : List ℕ} {B : Type 0} {subject : Subject B}
     {count : ℕ} (number : ℕ)
     → SoFar before now held holds pending waiting subject count → length pending ≤ 98304 → number ≡ count + 1
@@ -330,7 +330,7 @@ more_input None now bytes input c e = absurd (cc e)
 more_input (Some xs) None bytes input c e = absurd c
 more_input (Some xs) (Some ys) bytes input c e = let same : input ≡ xs = cc e in (ys, same ∙ c)
 
--- All was answered and written.
+-- All lines were answered, and the answers written.
 pub SoFar-end : {before now held holds : Option (List ℕ)} {pending : List ℕ} {B : Type 0} {subject : Subject B}
     {count : ℕ}
     → SoFar before now held holds pending [] subject count → pending ≡ [] → IsAtEnd now → AnswersWhole before held holds
@@ -445,7 +445,7 @@ SoFar-too_long {before} {now} {holds = holds} {pending = pending} s long plain =
     refused_at holds s input (pending ++ more.0) (pending ++ found.0) found.1.0 why.Line from found.1.1
     (too_long s.past pending found.0 long) (Appends-nothing holds holds (Keeps-same holds))
 
--- Want of memory at a suite's line
+-- A lack of memory at a suite's line
 
 missed_at : {before now held holds : Option (List ℕ)} {pending waiting : List ℕ} {B : Type 0} {subject : Subject B}
     {count : ℕ}
@@ -456,7 +456,7 @@ missed_at s input more line later is cut suite =
     ap (λ (t : List ℕ). begins_suite (texts_of t)) is
     ∙ ap begins_suite (s.cut more ∙ ap (λ (t : List (List ℕ)). s.lines ++ t) cut) ∙ s.suite line later suite
 
--- Memory was missed at a line that comes next.
+-- Memory ran out at the next line.
 SoFar-missed : {before now held holds : Option (List ℕ)} {pending waiting : List ℕ} {B : Type 0} {subject : Subject B}
     {count : ℕ}
     (holds2 : Option (List ℕ)) (s : SoFar before now held holds pending waiting subject count) (line : List ℕ)
@@ -516,7 +516,7 @@ rest_missed {before} {now} {pending = pending} {text = text} holds2 s some plain
       (texts_of-last pending some plain ∙ ap {B = List (List ℕ)} (λ (t : List ℕ). t ∷ []) (sym same)) wants w,
 )
 
--- As the code goes
+-- In the order of the code
 
 pub on_err_of : {A E P : Type 0} (r : Result A E) (x : E) → IsErrOf r x → OnErr r P → P
 on_err_of (Ok a) x is p = absurd (cc is)
@@ -688,7 +688,7 @@ refused_as before held holds {n} {m} {why} {subject} e f all =
 
 -- Ends
 
--- One line more of an answer.
+-- One more line of an answer.
 
 line_more : {S : Type 0} (bytes : S → List ℕ) (lines : List S) (i : ℕ) (line : S) → i < length lines
     → line ≡ get_or lines i line
@@ -721,7 +721,7 @@ puts_failed {a = a} {c = c} {p = p} bytes lines i line within at so_far f =
     (AppendsFront-first p (printed (map bytes (take i lines)) ++ (bytes line ++ 10 ∷ [])) rest
     (Emits-front (bytes line ++ 10 ∷ []) so_far f))
 
--- A row further down the table.
+-- One more row of the table.
 pub rows_further : (bytes : List ℕ) (i : ℕ) → i < length bytes
     → printed (flat_map both_sides (take (i + 1) bytes))
     ≡ printed (flat_map both_sides (take i bytes)) ++ (table_text (get_or bytes i 0) true ++ 10 ∷ [])
@@ -737,7 +737,7 @@ rows_further bytes i within =
     ∙ sym (append_assoc (printed (flat_map both_sides (take i bytes))) (table_text (get_or bytes i 0) true ++ 10 ∷ [])
     (table_text (get_or bytes i 0) false ++ 10 ∷ []))
 
--- By the fault that ended it.
+-- By the fault at which it ended.
 pub ends_by : (status : ℕ) (old new : Console) (subject : SimFault) → status ≡ status_of subject
     → Reports old.faults new.faults (report_of subject new.reader new.writer)
     → ((line : ℕ) (why : Why) → subject ≡ sim.Refused line why

@@ -1,4 +1,4 @@
--- How far `sim` has come. No public contract speaks of it.
+-- How far `sim` has come. No public contract names these definitions.
 use Rattle.std.specs.Prelude.{◌≡◌, ℕ, ◌+◌, Bool, true, false, List, [], ◌∷◌, ◌++◌, length, Option, Some, None, Result}
 use Rattle.std.specs.Prelude.{Ok, Err, ⊤}
 use Rattle.std.specs.Io.KnownBytes.{Consumes}
@@ -42,19 +42,19 @@ unstepped fault = refused_or_missed (step_why fault)
 
 -- One line
 
--- A line of a service was answered with this text, after which the machine stands so.
+-- The answer to a line of a service is this text, and its machine is then in this state.
 pub record SaysService (subject : Result Said Why) (machine : State) (text : List ℕ) : Type 0 where
   pub past : History
   pub is : subject ≡ Ok (record { texts = text ∷ []; past = Service past })
   pub stands : state_of past ≡ machine
 
--- A service took what a line says: whatever history led to this machine, the line was answered with this text, after
--- which the machine stands so.
+-- A service took what a line says. For each history that leads to the old machine, the answer to the line is this text,
+-- and its machine is then the new one.
 abbrev pub StepsService : (line : List ℕ) (old new : State) (text : List ℕ) → Type 0
 StepsService line old new text =
     (past : History) → state_of past ≡ old → SaysService (said_by (Service past) line) new text
 
--- A suite took an event: these are the lines of that, and it stands so.
+-- A suite took an event: these are the lines of its result, and this is the suite afterwards.
 abbrev pub StepsTo : Result Said Why → (lines : List (List ℕ)) → SuiteState → Type 0
 StepsTo subject lines suite = subject ≡ Ok (record { texts = lines; past = OfSuite suite })
 
@@ -62,7 +62,7 @@ StepsTo subject lines suite = subject ≡ Ok (record { texts = lines; past = OfS
 abbrev pub first_step : (A : Type 0) → List (List ℕ) → Result Said Why
 first_step A parts = stepping (new_suite 0 256) (suite_event_from {A = A} parts)
 
--- What the code holds stands for what was reported.
+-- The value in the code represents what the lines so far said.
 abbrev pub Stands : {A : Type 0} → Past → Subject A → Type 0
 Stands Nothing code.Nothing = ⊤
 Stands (Service past) (code.Service machine) = state_of past ≡ machine
@@ -74,19 +74,19 @@ abbrev pub texts_in : {A : Type 0} → Answer A → List (List ℕ)
 texts_in (written.Line text) = text.bytes ∷ []
 texts_in (written.Lines lines) = lines
 
--- A line was answered with these texts, after which what the code holds stands so.
+-- The answer to a line is these texts, and the value in the code is then right for it.
 pub record Says {A : Type 0} (past : Past) (line : List ℕ) (texts : List (List ℕ)) (subject : Subject A) : Type 0 where
   pub answer : Said
   pub is : said past line ≡ Ok answer
   pub texts_are : texts ≡ answer.texts
   pub stands : Stands answer.past subject
 
--- the answers to a line, each with a newline, or nothing where it is refused
+-- the answer to a line, with a newline after each of its lines, or nothing if the line is refused
 abbrev pub text_said : Result Said Why → List ℕ
 text_said (Ok answer) = printed answer.texts
 text_said (Err why) = []
 
--- A line was answered, and its answers wait behind those that wait already.
+-- A line was answered. Its answers wait to be written, after those that wait already.
 pub record Answered {A : Type 0} (past : Past) (line : List ℕ) (subject : Subject A)
     (held holds : Option (List ℕ)) (waiting left : List ℕ) : Type 0 where
   pub answer : Said
@@ -94,14 +94,14 @@ pub record Answered {A : Type 0} (past : Past) (line : List ℕ) (subject : Subj
   pub stands : Stands answer.past subject
   pub text : Emits held holds waiting left (printed answer.texts)
 
--- whether a line is a suite's, after what was reported
+-- whether a line belongs to a suite, after what was said so far
 abbrev pub is_suite_line : Past → List ℕ → Bool
 is_suite_line Nothing line = spells_scan (fields line)
 is_suite_line (Service past) line = false
 is_suite_line (OfSuite suite) line = true
 
--- The whole lines among the bytes that were read are answered, but for those that are pending. Some
--- of the answers wait to be written.
+-- The whole lines among the bytes that were read are answered, except for the pending ones. Some of the answers wait to
+-- be written.
 pub record SoFar {A : Type 0} (before now held holds : Option (List ℕ)) (pending waiting : List ℕ) (subject : Subject A)
     (count : ℕ) : Type 0 where
   pub done : List ℕ

@@ -30,17 +30,17 @@ use Rattle.cmd_sim.specs.declared.fault.Why.TheVariants as why
 use Rattle.cmd_sim.specs.declared.fault.SimFault.{SimFault}
 use Rattle.cmd_sim.specs.declared.fault.SimFault.TheVariants as sim
 
--- A fact of the number of the line that is refused, and of why, where one is.
+-- A fact about the number of the line that is refused, and the reason, if a line is refused.
 abbrev pub IfRefused : {A : Type 0} → Result A SimFault → (fact : ℕ → Why → Type 0) → Type 0
 IfRefused result fact = (number : ℕ) (why : Why) → IsErrOf result (sim.Refused number why) → fact number why
 
--- What was reported so far: nothing, a service's history, or a suite as it stands.
+-- What the lines so far said: nothing, a service's history, or a suite in its state.
 pub data Past : Type 0 where
   Nothing : Past
   Service : History → Past
   OfSuite : SuiteState → Past
 
--- What a line says: its answers, and what was reported after it.
+-- The meaning of a line: its answers, and what the lines have said after it.
 pub record Said : Type 0 where
   pub texts : List (List ℕ)
   pub past : Past
@@ -51,7 +51,7 @@ event_why fault.Line = why.Line
 event_why fault.Number = why.Number
 event_why fault.Label = why.Label
 
--- where supervise begins
+-- the beginning of a service
 abbrev pub beginning : Result (Bool × Tai64n) EventFault → Result Said Why
 beginning (Err fault) = Err (event_why fault)
 beginning (Ok opening) = Ok (record {
@@ -67,14 +67,14 @@ going_on past (Ok event) = Ok (record {
   past = Service (next past event);
 })
 
--- why a scan is refused; want of memory refuses no line
+-- the reason to refuse a line with this fault of a scan; a lack of memory refuses no line
 abbrev pub scan_why : ScanFault → Option Why
 scan_why (scan.Unsorted place) = Some why.Unsorted
 scan_why (scan.Twice place) = Some why.Twice
 scan_why scan.Exhausted = Some why.Exhausted
 scan_why scan.OutOfMemory = None
 
--- why an event of a suite is refused
+-- the reason to refuse a line with this fault of a step
 abbrev pub step_why : StepFault → Option Why
 step_why step.NoSuchPart = Some why.NoSuchPart
 step_why (step.Scan fault) = scan_why fault
@@ -91,7 +91,7 @@ stepped_unless None suite event = Ok (record {
   past = OfSuite (suite_after suite event);
 })
 
--- an event of a suite
+-- a step of a suite by an event
 abbrev pub stepping : {A : Type 0} → SuiteState → Result (SuiteEvent A) EventFault → Result Said Why
 stepping suite (Err fault) = Err (event_why fault)
 stepping suite (Ok event) = stepped_unless (refused_step (refusal suite event)) suite event
@@ -101,7 +101,7 @@ abbrev pub spells_scan : List (List ℕ) → Bool
 spells_scan [] = false
 spells_scan (word ∷ rest) = bytes_eq word (codes "scan")
 
--- The first line begins a service, or a suite where it spells a scan. Each later line is an event.
+-- The first line begins a service, or a suite if it spells a scan. Each later line is an event.
 abbrev pub said_by : Past → List ℕ → Result Said Why
 said_by Nothing line =
     if spells_scan (fields line) then stepping (new_suite 0 256) (suite_event_from {A = Unit {0}} (fields line))
@@ -109,24 +109,24 @@ said_by Nothing line =
 said_by (Service past) line = going_on past (event_from (fields line))
 said_by (OfSuite suite) line = stepping suite (suite_event_from {A = Unit {0}} (fields line))
 
--- what a line says after these lines; one of more than 65,536 bytes says nothing
+-- the meaning of a line after these lines; a line with more than 65,536 bytes has none
 abbrev pub said : Past → List ℕ → Result Said Why
 said past line = if nat_lt 65536 (length line) then Err why.Line else said_by past line
 
--- Nothing but memory can be wanting at a line: it spells an event, and one at a part that is not refused.
+-- Memory can run out at a line: the line spells an event, and if the event is at a part, it is not refused.
 abbrev pub IsRight : {A : Type 0} → SuiteState → Result (SuiteEvent A) EventFault → Type 0
 IsRight suite (Err fault) = ⊥
 IsRight suite (Ok (Scan rows label)) = ⊤
 IsRight {A} suite (Ok (At part event)) = refused_step (refusal {A = A} suite (At part event)) ≡ None
 
--- The same, after what was reported. At a line of a service memory is never wanting.
+-- The same, after what the lines said so far. Memory never runs out at a line of a service.
 abbrev pub MayWantMemory : Past → List ℕ → Type 0
 MayWantMemory Nothing line =
     (spells_scan (fields line) ≡ true) × IsRight (new_suite 0 256) (suite_event_from {A = Unit {0}} (fields line))
 MayWantMemory (Service past) line = ⊥
 MayWantMemory (OfSuite suite) line = IsRight suite (suite_event_from {A = Unit {0}} (fields line))
 
--- the answers to lines, up to the first one that is refused
+-- the answer to each of these lines, up to the first one that is refused
 abbrev pub answers : Past → List (List ℕ) → List (List ℕ)
 answers past [] = []
 answers past (line ∷ lines) = elim (said past line) [
@@ -134,7 +134,7 @@ answers past (line ∷ lines) = elim (said past line) [
   | Err why ↦ []
 ]
 
--- A line that is refused: its number, and why.
+-- A line that is refused: its number, and the reason.
 pub record Refusal : Type 0 where
   pub line : ℕ
   pub why : Why
@@ -142,7 +142,7 @@ pub record Refusal : Type 0 where
 abbrev pub at_line : (line : ℕ) (why : Why) → Refusal
 at_line line why = record { line = line; why = why }
 
--- the first line that is refused, where lines are numbered from here
+-- the first line that is refused, if lines are numbered from here
 abbrev pub first_refused : ℕ → Past → List (List ℕ) → Option Refusal
 first_refused number past [] = None
 first_refused number past (line ∷ lines) = elim (said past line) [
@@ -150,7 +150,7 @@ first_refused number past (line ∷ lines) = elim (said past line) [
   | Err why ↦ Some (record { line = number; why = why })
 ]
 
--- what `sim` prints for an input: the answers to its lines before the first that is refused
+-- what `sim` prints for an input: the answer to each line before the first one that is refused
 abbrev pub printed_for : List ℕ → List ℕ
 printed_for input = printed (answers Nothing (texts_of input))
 
@@ -158,12 +158,12 @@ printed_for input = printed (answers Nothing (texts_of input))
 abbrev pub refused_in : List ℕ → Option Refusal
 refused_in input = first_refused 1 Nothing (texts_of input)
 
--- whether these lines begin with a suite's
+-- whether these lines begin with a line of a suite
 abbrev pub begins_suite : List (List ℕ) → Bool
 begins_suite [] = false
 begins_suite (line ∷ lines) = spells_scan (fields line)
 
--- An input begins with a suite's line.
+-- An input begins with a line of a suite.
 abbrev pub IsOfSuite : (before : Option (List ℕ)) → Type 0
 IsOfSuite before = (input : List ℕ) → before ≡ Some input → begins_suite (texts_of input) ≡ true
 
@@ -172,19 +172,18 @@ abbrev pub AnswersWhole : (before held holds : Option (List ℕ)) → Type 0
 AnswersWhole before held holds =
     (input : List ℕ) → before ≡ Some input → (refused_in input ≡ None) × Appends held holds (printed_for input)
 
--- This is the first line of an input that is refused, and what was written is what `sim` prints for the lines before
--- it.
+-- This is the first line of an input that is refused. What was written is what `sim` prints for the lines before it.
 abbrev pub AnswersBefore : (before held holds : Option (List ℕ)) → Refusal → Type 0
 AnswersBefore before held holds refusal =
     (input : List ℕ) → before ≡ Some input → (refused_in input ≡ Some refusal) × Appends held holds (printed_for input)
 
--- What was written is a front of what `sim` prints for the bytes that were read.
+-- What was written is a prefix of what `sim` prints for the bytes that were read.
 pub record AnswersPart (before after held holds : Option (List ℕ)) : Type 0 where
   pub bytes : List ℕ
   pub read : Consumes before after bytes
   pub text : AppendsFront held holds (printed_for bytes)
 
--- What was written is what `sim` prints for the whole lines that were read. A last one without a newline is not
+-- What was written is what `sim` prints for the whole lines that were read. A last line without a newline is not
 -- answered.
 pub record AnswersLines (before after held holds : Option (List ℕ)) : Type 0 where
   pub lines : List (List ℕ)
@@ -193,8 +192,8 @@ pub record AnswersLines (before after held holds : Option (List ℕ)) : Type 0 w
   pub plain : IsPlain rest
   pub text : Appends held holds (printed_for (printed lines))
 
--- Memory was missed at a line of what was read: that line may want it, and the answers to the lines before it are
--- written.
+-- Memory ran out at one of the lines that were read: that line may need memory, and the answer to each line before it
+-- is written.
 pub record MissesAt (before after held holds : Option (List ℕ)) : Type 0 where
   pub bytes : List ℕ
   pub lines : List (List ℕ)
@@ -213,7 +212,7 @@ pub record ReadsNear (before after : Option (List ℕ)) (line : ℕ) : Type 0 wh
   pub read : Consumes before after bytes
   pub near : length bytes ≤ length (printed (take (line - 1) (texts_of bytes))) + 98304
 
--- The same of devices
+-- The same, for devices
 
 abbrev pub AnswersAll : (reader : Device) (old new : Device) → Type 0
 AnswersAll reader old new = AnswersWhole reader.bytes old.bytes new.bytes
@@ -228,7 +227,7 @@ AnswersFront reader reads old new = AnswersPart reader.bytes reads.bytes old.byt
 abbrev pub AnswersWholeLines : (reader reads : Device) (old new : Device) → Type 0
 AnswersWholeLines reader reads old new = AnswersLines reader.bytes reads.bytes old.bytes new.bytes
 
--- Memory was missed: before anything was read; or at a line of a suite.
+-- Memory was lacking: before anything was read, or at a line of a suite.
 abbrev pub LacksMemory : (reader reads : Device) (old new : Device) → Type 0
 LacksMemory reader reads old new =
     ((reads ≡ reader) × (new ≡ old))

@@ -1,4 +1,4 @@
-//! The answers to one line.
+//! The answer to one line.
 ghost use Rattle.std.specs.Prelude.{◌≡◌, ◌≢◌, ◌≤◌, [], ◌∷◌, length, flat_map, None, IsOk, IfOk, IfErr, IsErrOf, Ok};
 ghost use Rattle.std.specs.Prelude.{Err};
 ghost use Rattle.sup_core.specs.declared.asks.Reply.{Reply};
@@ -22,10 +22,10 @@ use suite_lines::{StepOut, SuiteEvent, read_suite_event, step_text};
 use sup_core::{Machine, answer_text, read_begin, read_event, split_field, took_text};
 use tai_status::{Label, Lines};
 
-/// How many entries the trace of a suite's part has room for.
+/// How many entries fit in the trace of a suite's part.
 const TRACE_CAPACITY: usize = 256;
 
-/// What the lines so far reported, as far as later lines go on from it.
+/// What the lines so far said, as far as later lines depend on it.
 #[derive(Drop)]
 pub(crate) enum Subject<A: Allocator + Clone = Global> {
     Nothing,
@@ -33,14 +33,14 @@ pub(crate) enum Subject<A: Allocator + Clone = Global> {
     Suite(Suite<A>),
 }
 
-/// The answers to a line.
+/// The answer to a line.
 #[derive(Drop)]
 pub(crate) enum Answer<A: Allocator = Global> {
     Line(ArrayString<128>),
     Lines(Lines<A>),
 }
 
-/// Where supervise begins, and what is reported of it.
+/// Begins a service. Returns its machine, and the answer.
 fn begin_at(opening: (bool, Label)) -> (Machine, ArrayString<128>)
     ensures machine { result.0 ≡ state_of (Begin opening.0 opening.1) }
     ensures text { result.1.bytes
@@ -52,7 +52,7 @@ fn begin_at(opening: (bool, Label)) -> (Machine, ArrayString<128>)
     (machine, text)
 }
 
-/// Begins a service.
+/// Begins a service from a line.
 fn begin_service(line: &[u8]) -> Result<(Machine, ArrayString<128>), NoAnswer>
     ensures ok { IfOk result (λ (machine, text).
         SaysService (beginning (begin_from (fields line.now))) machine text.bytes) }
@@ -75,7 +75,7 @@ fn step_service(machine: &mut Machine, line: &[u8]) -> Result<ArrayString<128>, 
     Ok(answer_text(&reply, machine.phase()))
 }
 
-/// The lines of what the steps of a suite give.
+/// Returns the lines of the results of a suite's steps.
 fn lines_of<A: Allocator + Clone>(alloc: &A, outs: &[StepOut<A>]) -> Result<Lines<A>, AllocError>
     ensures { IfOk result (λ lines. lines ≡ flat_map step_lines outs.now) }
 {
@@ -87,7 +87,7 @@ fn lines_of<A: Allocator + Clone>(alloc: &A, outs: &[StepOut<A>]) -> Result<Line
     Ok(Lines::from_vec(lines))
 }
 
-/// Takes an event of a suite. Memory is wanted only where the event is not refused.
+/// Takes an event of a suite. Memory can be lacking only if the event is not refused.
 fn step_event<A: Allocator + Clone + Copy>(
     alloc: A,
     suite: &mut Suite<A>,
@@ -104,7 +104,7 @@ fn step_event<A: Allocator + Clone + Copy>(
     Ok(lines_of(&alloc, &outs)?)
 }
 
-/// Takes the event of a suite that a line says.
+/// Takes the event of a suite in a line.
 fn step_suite<A: Allocator + Clone + Copy>(
     alloc: A,
     suite: &mut Suite<A>,
@@ -121,7 +121,7 @@ fn step_suite<A: Allocator + Clone + Copy>(
     step_event(alloc, suite, &event)
 }
 
-/// Begins a suite with the event that a line says.
+/// Begins a suite with the event in a line.
 fn begin_suite<A: Allocator + Clone + Copy>(
     alloc: A,
     line: &[u8],
@@ -137,7 +137,7 @@ fn begin_suite<A: Allocator + Clone + Copy>(
     Ok((suite, lines))
 }
 
-/// Whether a line's first word is that of a scan.
+/// Returns whether a line's first word is that of a scan.
 fn spells_scan(line: &[u8]) -> bool
     ensures { result ≡ spells_scan (fields line.now) }
 {
@@ -164,7 +164,7 @@ fn begin<A: Allocator + Clone + Copy>(
 }
 
 impl<A: Allocator + Clone + Copy> Subject<A> {
-    /// Answers a line: the first begins, and each later one is an event.
+    /// Answers a line: the first line begins, and each later line is an event.
     pub(crate) fn answer(&mut self, alloc: A, line: &[u8]) -> Result<Answer<A>, NoAnswer>
         requires { length line.now ≤ 65536 }
         ensures ok { IfOk result (λ answer. (past : Past) → Stands past self.old

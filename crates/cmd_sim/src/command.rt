@@ -15,7 +15,7 @@ use std::alloc::Allocator;
 use std::io::{Read, Write};
 use tai_status::{Input, Output};
 
-/// What is reported of a line that is refused.
+/// Returns the report of a line that is refused.
 fn refused_text(line: u64, why: Why) -> ArrayString<64>
     ensures { result.bytes ≡ refused_report line why }
 {
@@ -28,7 +28,7 @@ fn refused_text(line: u64, why: Why) -> ArrayString<64>
     out
 }
 
-/// Reports that the writer failed, and why, and returns the status of that.
+/// Reports that the writer failed, and why, and returns the exit status for that.
 fn report_unwritten<W: Write, E: Write>(writer: &Output<W>, faults: &mut Output<E>) -> u8
     ensures status { result ≡ 111 }
     ensures reported { Reports faults.old faults.new (unwritten_report writer.now) }
@@ -36,7 +36,7 @@ fn report_unwritten<W: Write, E: Write>(writer: &Output<W>, faults: &mut Output<
     report_device(faults, b"sim: ", b"write fault", writer.cause())
 }
 
-/// Reports a fault, and returns its status.
+/// Reports a fault, and returns its exit status.
 fn report_fault<D: Read, W: Write, E: Write>(
     fault: SimFault,
     reader: &Input<D>,
@@ -84,12 +84,16 @@ fn show_table<W: Write, E: Write>(writer: &mut Output<W>, faults: &mut Output<E>
     }
 }
 
-/// The command `sim`: reads lines, and prints what each is answered with. A first line of the word `scan` is the first
-/// event of a suite, and each later line is one; each is answered by one line or more. Another first line begins a
-/// service, each later line is an event of it, and each is answered by one line. With the word `table` it prints the
-/// table of the control bytes, and other words are wrong. Returns the status: 0; 100 if a line is refused, of which
-/// the fault writer reports the number, or for wrong words; 111 if it is out of memory and for a fault of the reader or
-/// the writer, which is reported with its cause. A copy of the allocator takes no memory, as of the program's own.
+/// The command `sim`: reads lines, and prints the answer to each.
+///
+/// If the first line begins with the word `scan`, it is the first event of a suite, and so is each later line. The
+/// answer to each is one line or more. Any other first line begins a service, and each later line is an event of it.
+/// The answer to each is one line. With the word `table`, the command prints the table of the control bytes. Other
+/// words are wrong.
+///
+/// Returns the exit status: 0; 100 if a line is refused, and for wrong words; 111 if it is out of memory, or if the
+/// reader or the writer fails. A refused line is reported with its number, and a failure with its cause. A copy of the
+/// allocator needs no memory, as with the program's own.
 pub fn run_sim<A: Allocator + Clone + Copy, D: Read, W: Write, E: Write>(
     alloc: A,
     words: &[&str],

@@ -13,7 +13,7 @@ use sup_core::EventFault;
 pub enum Why {
     /// The first word is not known.
     UnknownEvent,
-    /// The number of fields is wrong, or a field that is neither a number nor a label.
+    /// The number of fields is wrong, or a field that should be no number and no label.
     Line,
     /// A number is wrong.
     Number,
@@ -23,13 +23,13 @@ pub enum Why {
     NoSuchPart,
     /// The rows of a scan do not rise by name.
     Unsorted,
-    /// Two rows of a scan have one name.
+    /// Two rows of a scan have the same name.
     Twice,
-    /// A scan needs more numbers than there are.
+    /// A scan needs more numbers than are left.
     Exhausted,
 }
 
-/// The name of why a line is refused.
+/// Returns the name of the reason to refuse a line.
 pub(crate) fn why_name(why: Why) -> &'static str
     ensures name { result.now ≡ why_name why }
     ensures short { length result.now ≤ 12 }
@@ -46,7 +46,7 @@ pub(crate) fn why_name(why: Why) -> &'static str
     }
 }
 
-/// Why `sim` ends before the end of its input.
+/// Why `sim` exits before the end of its input.
 #[derive(Clone, Copy, Debug, PartialEq, Eq)]
 pub enum SimFault {
     /// A line is refused. Lines are numbered from 1.

@@ -1,4 +1,4 @@
-//! A service as the lines say it, and the answers to them.
+//! A service as the lines describe it, and the answer to each line.
 ghost use Rattle.std.specs.Prelude.{◌≡◌, ◌≤◌, ◌<◌, ◌+◌, ◌^◌, [], ◌∷◌, ◌++◌, length, OnOk, OnErr, IfOk, IfErr};
 ghost use Rattle.std.specs.Prelude.{IsErrOf, Err, ℕ, ◌≢◌, map, string_bytes};
 ghost use Rattle.tai_status.specs.Counted.{Fails, Works, Wrote, WroteFront, IsRead};
@@ -21,10 +21,10 @@ use std::alloc::{AllocError, Allocator};
 use std::io::{Read, Write};
 use tai_status::{Block, Input, LineFault, LineReader, Output};
 
-/// The most bytes that a line may have, without its newline.
+/// The most bytes of a line, without its newline.
 const LINE_BOUND: usize = 65_536;
 
-/// What was reported so far, how many lines reported it, and the answers that wait to be written.
+/// What the lines so far said, how many lines there were, and the answers that wait to be written.
 #[derive(Drop)]
 struct Session<A: Allocator + Clone> {
     alloc: A,
@@ -81,7 +81,7 @@ impl<A: Allocator + Clone + Copy> Session<A> {
         }
     }
 
-    /// Puts an answer behind those that wait.
+    /// Adds an answer after those that wait.
     fn put<W: Write>(&mut self, text: &[u8], writer: &mut Output<W>) -> Result<(), SimFault>
         ensures ok { OnOk result (Puts writer.old writer.new self.old.waiting self.new.waiting (text.now ++ 10 ∷ [])) }
         ensures err { OnErr result (WroteFront writer.old writer.new (self.old.waiting ++ (text.now ++ 10 ∷ []))) }
@@ -97,7 +97,7 @@ impl<A: Allocator + Clone + Copy> Session<A> {
         }
     }
 
-    /// Puts answers behind those that wait.
+    /// Adds answers after those that wait.
     fn put_all<W: Write>(
         &mut self,
         answer: &Answer<A>,
@@ -119,7 +119,7 @@ impl<A: Allocator + Clone + Copy> Session<A> {
         }
     }
 
-    /// Puts lines behind the answers that wait.
+    /// Adds lines after the answers that wait.
     fn put_lines<W: Write>(
         &mut self,
         lines: &[String<A>],
@@ -141,7 +141,7 @@ impl<A: Allocator + Clone + Copy> Session<A> {
         Ok(())
     }
 
-    /// What is reported where the next line has no answer. The answers that wait are written first.
+    /// Returns the fault for a next line that has no answer. The answers that wait are written first.
     fn give_up<W: Write>(&mut self, none: NoAnswer, writer: &mut Output<W>) -> SimFault
         requires { self.old.count < 2 ^ 63 }
         ensures refused { (number : ℕ) (why : Why) → result ≡ SimFault.Refused number why
@@ -168,7 +168,7 @@ impl<A: Allocator + Clone + Copy> Session<A> {
         }
     }
 
-    /// Answers a line, behind the answers that wait. Where it has no answer, those are written.
+    /// Answers a line, after the answers that wait. If the line has no answer, those are written.
     fn answer_line<W: Write>(&mut self, line: &[u8], writer: &mut Output<W>) -> Result<(), SimFault>
         requires { self.old.count < 2 ^ 63 }
         ensures ok { OnOk result (AnswersLine line.now writer.old self.old writer.new self.new) }
@@ -230,7 +230,7 @@ impl<A: Allocator + Clone + Copy> Session<A> {
         self.flush(writer)
     }
 
-    /// Answers the last line, where it has no newline, and writes the answer.
+    /// Answers the last line, if it has no newline, and writes the answer.
     fn answer_rest<W: Write>(
         &mut self,
         lines: &mut LineReader<A>,
@@ -261,7 +261,7 @@ impl<A: Allocator + Clone + Copy> Session<A> {
     }
 }
 
-/// A reader of lines, before any is read.
+/// Returns a reader of lines that has read nothing yet.
 fn line_reader<A: Allocator + Clone + Copy>(alloc: A) -> Result<LineReader<A>, AllocError>
     ensures { IfOk result (λ lines. lines ≡ record { pending = []; line = []; bound = LINE_BOUND }) }
 {

@@ -18,7 +18,7 @@ fn push_row(out: &mut ArrayString<2048>, byte: u8, running: bool)
     out.push_str("\n");
 }
 
-/// The rows of control bytes, both sides of each.
+/// Returns the rows of control bytes, both sides of each.
 fn rows_of(bytes: &[u8]) -> ArrayString<2048>
     requires { length bytes.now ≤ 20 }
     ensures { result.bytes ≡ printed (flat_map both_sides bytes.now) }
@@ -31,7 +31,7 @@ fn rows_of(bytes: &[u8]) -> ArrayString<2048>
     out
 }
 
-/// The printed table.
+/// Returns the printed table.
 pub fn whole_table() -> ArrayString<2048>
     ensures { result.bytes ≡ printed_table }
 {

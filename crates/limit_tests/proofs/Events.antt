@@ -1,4 +1,4 @@
--- A line's event is one of a suite.
+-- A line's event is a valid event of a suite.
 use Rattle.std.proofs.Common.{List, [], ◌∷◌, ◌++◌}
 use Rattle.std.specs.List.{All}
 use Rattle.std.proofs.lemmas.List.Elements.{All-nil, All-cons, All-append}

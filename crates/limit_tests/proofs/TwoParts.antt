@@ -40,14 +40,14 @@ two_of (x ∷ []) count = absurd (omega arith)
 two_of (x ∷ y ∷ []) count = record { first = x; second = y; is = refl }
 two_of (x ∷ y ∷ z ∷ xs) count = absurd (omega arith)
 
--- What is known goes on being known
+-- What is known stays known
 
 readings_on : (past : List Tai64n) (now : Option (List Tai64n)) (more : List Tai64n) → Extended (Some past) now more
     → now ≡ Some (past ++ more)
 readings_on past None more extended = absurd extended
 readings_on past (Some now) more extended = ap Some extended
 
--- Files that are visible at the end were so before.
+-- Files that are visible at the end were visible before.
 record Came (before : Option Files) (after : Files) (steps : List Step) : Type 0 where
   files : Files
   there : before ≡ Some files
@@ -92,7 +92,7 @@ gave script p files old new bytes_are files_are ran =
           (runs.logs 0));
     }
 
--- The turns of an input behind whose first part there is one more
+-- The turns of an input that has one more part after the first
 
 record OneTurn (script : List Act) (p : List ℕ) (old last : Play) : Type 0 where
   turn : Turns script old last
@@ -169,7 +169,7 @@ after_second : (path : List ℕ) (reading first second : Tai64n)
     ≡ record { current = second_part; olds = (rotated_files reading).olds }
 after_second path reading first second = refl
 
--- what the log has, and what the clock gave, after the turn and the second part
+-- the files of the log, and the readings of the clock, after the turn and the second part
 whole : (path : List ℕ) (old last new : Play) (final : Files) (given : List Tai64n)
     → old.feed.device.bytes ≡ Some first_part → old.store.visible.files 0 ≡ Some empty → old.readings ≡ Some []
     → new.store.visible.files 0 ≡ Some final → new.readings ≡ Some given
@@ -249,13 +249,13 @@ two_parts path old new final given old_bytes old_behind old_files old_readings n
           ran.ends.0
     ]
 
--- An input that is not to be rotated has no part behind.
+-- An input without a rotation to come has no later part.
 pub none_left : (second : Option (List ℕ)) (p : List ℕ) → is_some second ≡ false → Some (behind second) ≡ Some (p ∷ [])
     → ⊥
 none_left None p none there = cc there
 none_left (Some part) p none there = cc none
 
--- The last of one file of a log is the first.
+-- If a log has one file, its last file is its first.
 pub last_is_first : (logs rest : List Files) (popped : Option Files) (file : Files)
     → logs ≡ rest ++ option_to_list popped → popped ≡ Some file → length logs ≡ 1 → slice_get logs 0 ≡ Some file
 last_is_first logs [] popped file split is count =

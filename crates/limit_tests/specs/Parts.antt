@@ -5,12 +5,12 @@ use Rattle.tai_status.specs.Label.{Tai64n}
 use Rattle.mlog_files.specs.Files.{Files, old_name}
 use Rattle.mlog_core.specs.Feed.{Feed}
 
--- the bytes of the parts that are not begun
+-- the bytes of the parts that have not begun
 abbrev pub behind : Option (List ℕ) → List (List ℕ)
 behind None = []
 behind (Some bytes) = bytes ∷ []
 
--- an input that has these bytes left and then this part, after so many reads and faults
+-- an input that has these bytes left and then this part, after this many reads and faults
 abbrev pub feed_of : (left : List ℕ) → (second : Option (List ℕ)) → (reads faults : ℕ) → Option Cause → Feed
 feed_of left second reads faults cause = record {
   device = record { bytes = Some left; reads = reads; faults = faults; cause = cause };
@@ -18,9 +18,9 @@ feed_of left second reads faults cause = record {
   rotates = is_some second;
 }
 
--- A run over the parts `a` and `b c` left this: the clock was read for the line of the first part, for the rotation
--- behind it, and for each line of the second. The first part is the old file of the rotation's label, and the second
--- is the current file.
+-- A run over the parts `a` and `b c` left this. The clock was read for the line of the first part, for the rotation
+-- after it, and for each line of the second part. The first part is in the old file with the rotation's label, and the
+-- second part is in the current file.
 pub record IsTwoParts (files : Files) (readings : List Tai64n) : Type 0 where
   pub first : Tai64n
   pub rotation : Tai64n

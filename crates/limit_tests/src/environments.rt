@@ -3,7 +3,7 @@ use std::alloc::{Allocator, Global};
 use std::test::Fail;
 use test_base::{Scarce, check, refuse_in_turn};
 
-/// Files, and the variables that there were and that there are then, in their order, by hand.
+/// Files, and the variables before and after them, in their order, written by hand.
 const FILES: [EnvFile<'static>; 5] = [
     EnvFile {
         name: ".E",
@@ -31,14 +31,14 @@ const BEFORE: [(&str, &str); 3] = [("B", "1"), ("A", "0"), ("Z", "9")];
 
 const AFTER: [(&str, &str); 4] = [("Z", "9"), ("A", "x y"), ("C", ""), ("D", "p\nq")];
 
-/// Whether an environment has these variables, in this order.
+/// Returns whether an environment has these variables, in this order.
 fn has<A: Allocator + Clone>(env: &Env<A>, variables: &[(&str, &str)]) -> bool {
     env.len() == variables.len()
         && env.as_slice().iter().zip(variables).all(|(found, (name, value))| found.name() == *name
             && found.value() == *value)
 }
 
-/// Applies files to an environment, which stays as it was.
+/// Applies files to an environment, which does not change.
 fn applying(memory: &Scarce<Global>, growths: u64) -> Result<bool, Fail> {
     let mut old = Env::new(memory);
     for (name, value) in BEFORE {

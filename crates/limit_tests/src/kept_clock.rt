@@ -1,10 +1,10 @@
-//! A clock that keeps what it gave.
+//! A clock that keeps its readings.
 use std::alloc::Global;
 use std::process::Abort;
 use tai_status::{Label, TimeSource};
 
-/// A clock that goes on by a second at each reading, and keeps its readings. It ends the test if there is no memory for
-/// one more: a clock that reports what it gave goes on reporting it.
+/// A clock that advances by a second at each reading, and keeps its readings. It ends the test if there is no memory
+/// for one more: a clock that shows its readings must go on showing them.
 #[derive(Drop)]
 pub struct KeptClock<'a, R: Abort> {
     rt: &'a R,
@@ -15,7 +15,7 @@ pub struct KeptClock<'a, R: Abort> {
 impl<'a, R: Abort> KeptClock<'a, R> {
     ghost use Rattle.std.specs.Prelude.{◌≡◌, []};
 
-    /// A clock that was not read yet, and begins with this label.
+    /// Returns a clock that was not read yet, and begins with this label.
     pub fn new(rt: &'a R, alloc: Global, next: Label) -> KeptClock<'a, R>
         ensures { result.readings.items ≡ [] }
     {
@@ -26,7 +26,7 @@ impl<'a, R: Abort> KeptClock<'a, R> {
         }
     }
 
-    /// What it gave, in order.
+    /// Returns the readings, in order.
     pub fn into_readings(self) -> Vec<Label>
         ensures { result.items ≡ self.entry.readings.items }
     {

@@ -1,5 +1,5 @@
-//! Tests of what only a large input, the last number or a refused growth shows: rings that fold, numbers that run out,
-//! what a run counts, and calls that are made again after they had no memory.
+//! Tests of what only a large input, the last number or a refused growth can show. These are rings that fold, numbers
+//! that run out, the counts of a run, and calls that are repeated after they ran out of memory.
 #![tactic(auto)]
 
 #[cfg(test)]

@@ -8,7 +8,7 @@ use std::test::Fail;
 use tai_status::{Input, Label, Output, TimeSource, stamp_lines};
 use test_base::{Scarce, check, refuse_in_turn};
 
-/// A clock that does not go on: it is the beginning of 1970.
+/// A clock that stays at the beginning of 1970.
 #[derive(Drop)]
 struct Stopped;
 
@@ -21,7 +21,7 @@ impl TimeSource for Stopped {
     }
 }
 
-/// A store of one empty log.
+/// Returns a store with one empty log.
 pub(crate) fn one_log<A: Allocator + Clone>(alloc: A) -> Result<MemoryStore<A>, AllocError>
     ensures { IfOk result (λ store. store.logs ≡ record { current = []; olds = [] } ∷ []) }
 {
@@ -34,7 +34,7 @@ pub(crate) fn one_log<A: Allocator + Clone>(alloc: A) -> Result<MemoryStore<A>, 
     Ok(MemoryStore::new(alloc, logs, statuses))
 }
 
-/// A script of one log with files of 4,096 bytes, ten in all.
+/// Returns a script with one log that has files of 4,096 bytes, ten in all.
 fn script(alloc: Global) -> Result<Script, Fail> {
     let words = ["s4096", "n10", "./main"];
     Script::read(alloc, &words).map_err(|_| Fail::new("a script"))
@@ -82,7 +82,7 @@ fn counts_what_it_finished_and_removed(rt: HostRuntime) -> Result<(), Fail> {
     Ok(())
 }
 
-/// What a run over a line of 5,000 bytes counts.
+/// The counts of a run over a line of 5,000 bytes.
 const ONE_FILE: Counts = Counts {
     lines: 1,
     finished: 1,
@@ -95,7 +95,7 @@ fn line_of_5000(alloc: Global) -> Result<String, AllocError> {
     Ok(text)
 }
 
-/// A run whose own memory is refused reads nothing, and the same run counts what it counts without that.
+/// Runs with too little memory. Such a run reads nothing, and repeated with memory it has the counts of a first run.
 fn beginning(memory: &Scarce<Global>, growths: u64) -> Result<bool, Fail> {
     let script = script(memory.ample())?;
     let text = line_of_5000(memory.ample())?;
@@ -116,7 +116,7 @@ fn beginning(memory: &Scarce<Global>, growths: u64) -> Result<bool, Fail> {
     Ok(refused)
 }
 
-/// A store that fails ends the run, with a front of the line in its files.
+/// Runs over a store that fails, which ends the run. A prefix of the line is in the store's files.
 fn storing(memory: &Scarce<Global>, growths: u64) -> Result<bool, Fail> {
     let script = script(memory.ample())?;
     let text = line_of_5000(memory.ample())?;
@@ -153,7 +153,7 @@ fn each_growth_of_a_run_is_refused_in_turn(rt: HostRuntime) -> Result<(), Fail> 
     refuse_in_turn(rt.alloc(), storing)
 }
 
-/// Two lines, the last without a newline, are counted, and each has the label of the clock.
+/// Two lines, the last one without a newline, are counted. Each has the label of the clock.
 #[test]
 fn counts_the_stamps(rt: HostRuntime) -> Result<(), Fail> {
     let mut input = Input::new(b"a\nb".as_slice());

@@ -1,4 +1,5 @@
-//! Pasts that are kept: what a clock gave and what a store holds, next to what the code that ran over them promises.
+//! Kept pasts: the readings of a clock and the content of a store, compared with the promises of the code that used
+//! them.
 ghost use Rattle.std.specs.Prelude.{◌≡◌, ◌∷◌, [], codes, length, IfOk};
 ghost use Rattle.tai_status.specs.Lines.{lines_of, stamped};
 ghost use Rattle.mlog_script.specs.Script.{Log};
@@ -15,7 +16,7 @@ use std::process::Abort;
 use std::test::Fail;
 use tai_status::{Input, Label, Output, StampFault, stamp_lines};
 
-/// What comes of the lines of a text that are stamped, and what the clock gave for them: a reading for each line, whose
+/// Returns the stamped lines of a text, and the readings of the clock for them: one reading for each line, and its
 /// stamp is before the line.
 fn stamped_by_a_kept_clock<R: Abort>(
     rt: &R,
@@ -45,14 +46,14 @@ fn a_clock_is_read_once_a_line(rt: HostRuntime) -> Result<(), Fail> {
     Ok(())
 }
 
-/// The script of one log.
+/// Returns the script with one log.
 fn one_log_script(alloc: Global) -> Result<Script, ScriptFault>
     ensures { IfOk result (λ script. script ≡ Log (codes "./main") ∷ []) }
 {
     Script::read(alloc, &["./main"])
 }
 
-/// What a run over two parts leaves in the one log of a store, and what the clock gave for it.
+/// Returns what a run over two parts leaves in the one log of a store, and the readings of the clock for it.
 fn run_two_parts<R: Abort>(
     rt: &R,
     alloc: Global,
@@ -71,7 +72,8 @@ fn run_two_parts<R: Abort>(
     Ok((files, clock.into_readings()))
 }
 
-/// A rotation after the first part: an old file with its line, and the lines of the second part in the current file.
+/// The first part is followed by a rotation: its line is in an old file, and the lines of the second part are in the
+/// current file.
 #[test]
 fn a_log_keeps_what_it_was_given(rt: HostRuntime) -> Result<(), Fail> {
     let start = Label::from_unix(0, 0).ok_or("a label")?;

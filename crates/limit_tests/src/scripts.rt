@@ -30,7 +30,7 @@ const ANSWERS: [&str; 8] = [
     "0.main.2 took record:400000000000000d000000000000000000750000 start -> starting",
 ];
 
-// The service of the script, in its nth life.
+// The service of the script, in this life.
 fn service(life: u64) -> PartId {
     PartId {
         slot: 0,
@@ -51,7 +51,7 @@ fn script<R: Abort, A: Allocator + Clone + Copy>(rt: &R, alloc: A) -> Vec<SuiteE
     events
 }
 
-/// A run answers each event up to the one that is refused. The trace of a service that is there, written as text and
+/// A run replies to each event up to the one that is refused. The trace of a service that is there, written as text and
 /// read again, replays to its machine.
 #[test]
 fn a_script_is_run(rt: HostRuntime) {

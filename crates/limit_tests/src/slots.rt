@@ -4,7 +4,7 @@ use std::test::Fail;
 use tai_status::Name;
 use test_base::{Scarce, check, refuse_in_turn};
 
-/// Directories of these names, with a log if the name begins with `p`.
+/// Returns directories with these names, with a log if the name begins with `p`.
 fn rows<A: Allocator + Clone>(alloc: A, names: &[&str]) -> Result<Vec<DirRow<A>, A>, AllocError> {
     let mut rows = Vec::new(alloc.clone()?);
     for name in names {
@@ -23,7 +23,7 @@ fn part(slot: u64, role: Role, life: u64) -> PartId {
     PartId { slot, role, life }
 }
 
-/// A table whose next number is the last but one has none for a service, which takes two. One that has two gives them.
+/// A table with one number left has too few for a service, which takes two. A table with two numbers left has enough.
 #[test]
 fn numbers_run_out(rt: HostRuntime) -> Result<(), Fail> {
     let found = rows(rt.alloc(), &["a"])?;
@@ -40,8 +40,8 @@ fn numbers_run_out(rt: HostRuntime) -> Result<(), Fail> {
     Ok(())
 }
 
-/// A scan that starts, restarts and drops, and a copy of the table. After a refused growth nothing has changed, and
-/// the same scan gives what it gives without one.
+/// Makes a scan that starts, restarts and drops, and a copy of the table. After a refused growth nothing has changed,
+/// and the same scan gives what it gives without a refusal.
 fn scanning(memory: &Scarce<Global>, growths: u64) -> Result<bool, Fail> {
     let mut table = ScanTable::new(memory, 0)?;
     table.scan(rows(memory, &["p", "q"])?.as_slice())?;

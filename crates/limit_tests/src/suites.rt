@@ -10,7 +10,7 @@ use sup_core::{Event, Phase};
 use tai_status::{Label, Name};
 use test_base::{Scarce, check, refuse_in_turn};
 
-/// What the second scan gives: the logger of `p` ended and begins again, `q` is gone, and `r` is new.
+/// The result of the second scan: the logger of `p` ended and begins again, `q` is gone, and `r` is new.
 const LINES: [&str; 4] = [
     "scan: 1 started, 1 restarted, 1 dropped, 0 refused",
     "3 dropped",
@@ -18,7 +18,7 @@ const LINES: [&str; 4] = [
     "0.log.5 took record:400000000000000b000000000000000000640004 -> down",
 ];
 
-/// The second of TAI64 that is 10 after 1970, and this many more.
+/// Returns the label of the second that is 10 after 1970 in TAI64, plus this many more.
 fn label(seconds: u32) -> Label {
     Label {
         sec: (1 << 62) + 10 + seconds as u64,
@@ -26,7 +26,7 @@ fn label(seconds: u32) -> Label {
     }
 }
 
-/// A scan that finds directories of these names with files `down`, with a log if the name begins with `p`.
+/// Returns a scan that finds directories with these names and files `down`, with a log if the name begins with `p`.
 fn scan<A: Allocator + Clone>(
     alloc: A,
     seconds: u32,
@@ -51,14 +51,14 @@ fn part(slot: u64, role: Role, life: u64) -> PartId {
     PartId { slot, role, life }
 }
 
-/// A byte for a part.
+/// Returns a byte for a part.
 fn byte<A: Allocator>(part: PartId, byte: u8) -> SuiteEvent<A>
     ensures { IsSuiteEvent result }
 {
     SuiteEvent::At(part, Event::Byte(byte))
 }
 
-/// Reads the line of a scan, which a suite takes, and then writes what it gave.
+/// Reads the line of a scan, which a suite takes, and then writes the result.
 fn scanning(memory: &Scarce<Global>, growths: u64) -> Result<bool, Fail> {
     let mut suite = Suite::new(memory, 0, 1)?;
     let mut out = Vec::new(memory);
@@ -100,7 +100,7 @@ fn scanning(memory: &Scarce<Global>, growths: u64) -> Result<bool, Fail> {
     Ok(no_event || no_scan || no_text)
 }
 
-/// Writes the last of what steps gave.
+/// Writes the last of the results of steps.
 fn writing(
     memory: &Scarce<Global>,
     growths: u64,
@@ -121,14 +121,14 @@ fn writing(
     Ok(no_text)
 }
 
-/// An event at a part.
+/// Takes an event at a part.
 fn taking(memory: &Scarce<Global>, growths: u64) -> Result<bool, Fail> {
     let mut suite = Suite::new(memory, 0, 1)?;
     let mut out = Vec::new(memory);
     let main = part(0, Role::Main, 1);
     let first = [scan(memory, 0, &["q"])?];
     check("a scan", suite.run(&first, &mut out).is_ok())?;
-    // The vector of what was given is full now.
+    // The vector of results is full now.
     out.shrink_to_fit();
     let second = [byte(main, b'u')];
     memory.give(growths);

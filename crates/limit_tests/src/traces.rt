@@ -12,13 +12,13 @@ death @400000000000000d00000000
 end 2
 ";
 
-/// What its entries ask.
+/// The explanations of its entries.
 const LINES: [&str; 2] = [
     "1 byte d: took TERM:4711 CONT:4711 record:400000000000000b000000006712000000640003 -> up",
     "2 death @400000000000000d00000000: took record:400000000000000d000000000000000000640004 -> down",
 ];
 
-/// The machine with which supervise begins in the tenth second of TAI.
+/// Returns the machine with which supervise begins in the tenth second of TAI.
 fn begun() -> Result<Machine, Fail> {
     let (down_file, label) = read_begin(b"begin up @400000000000000a00000000")?;
     Ok(Machine::begin(down_file, label).0)
@@ -80,7 +80,7 @@ fn reading(memory: &Scarce<Global>, growths: u64) -> Result<bool, Fail> {
     Ok(no_reading || no_lines)
 }
 
-/// After a refused growth the same call has the result that it has without one.
+/// After a refused growth the same call has the same result as without one.
 #[test]
 fn each_growth_of_traces_is_refused_in_turn(rt: HostRuntime) -> Result<(), Fail> {
     refuse_in_turn(rt.alloc(), keeping)?;
@@ -106,7 +106,7 @@ fn a_ring_of_one_keeps_the_last(rt: HostRuntime) -> Result<(), Fail> {
     Ok(())
 }
 
-/// Of 70,000 events the last 65,536 are kept, and the 4,464 before them are folded.
+/// The last 65,536 of 70,000 events are kept, and the 4,464 before them are folded.
 #[test]
 fn folds_the_oldest_of_many(rt: HostRuntime) -> Result<(), Fail> {
     let (down_file, label) = read_begin(b"begin down @400000000000000a00000000")?;

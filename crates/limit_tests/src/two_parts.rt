@@ -1,14 +1,14 @@
-//! An input of two parts that are known.
+//! An input with two known parts.
 ghost use Rattle.std.specs.Prelude.{◌≤◌, ◌^◌};
 
 use mlog_core::PartedInput;
 use tai_status::{Cause, DeviceFault};
 
-/// How often it is read at most.
+/// The most reads of the input.
 const MOST_READS: u64 = 1 << 48;
 
-/// An input that comes in two parts, of which contracts see all that is left. It counts its faults, which are reads
-/// after the last that it allows.
+/// An input that comes in two parts. Contracts see all that is left of it. It counts its faults, which are reads after
+/// the last one that it allows.
 #[derive(Drop)]
 pub struct TwoParts<'a> {
     left: &'a [u8],
@@ -22,7 +22,7 @@ pub struct TwoParts<'a> {
 impl<'a> TwoParts<'a> {
     ghost use Rattle.std.specs.Prelude.{◌≡◌, Some, option_map};
 
-    /// The first part, which was not read yet, and the second behind it.
+    /// Returns an input that was not read yet, with the first part, and the second one after it.
     pub fn new(first: &'a [u8], second: &'a [u8]) -> TwoParts<'a>
         ensures first { result.left.now ≡ first.entry.now }
         ensures second { option_map (λ part. part.now) result.second ≡ Some second.entry.now }

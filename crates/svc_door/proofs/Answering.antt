@@ -1,4 +1,4 @@
--- What a read's answer says fits what the read did.
+-- The meaning of a read's result agrees with what the read did.
 use Rattle.std.proofs.Common.{◌≡◌, ℕ, zero, suc, ◌<◌, List, [], length, take, Option, None, Some, Ok, Err, Result, IfOk}
 use Rattle.std.proofs.Common.{refl, sym, subst, arith}
 use Rattle.std.proofs.Math.Dec.{eqb-suc-zero}
@@ -30,7 +30,7 @@ heard-fault _ old mid new heard into k l is =
     let same : Fault ≡ heard = cc in
     subst (λ h. Hears old new h into) same (Keeps-then old mid new k l)
 
--- what a read's answer says, after reads that gave nothing
+-- the meaning of a read's result, after reads that gave nothing
 pub heard-of : (answer : Result ℕ Error) (old mid new : Option (List ℕ)) (heard : Heard) (into : List ℕ) → Keeps old mid
     → 0 < length into → IfOk answer (λ count. IsPrefixLen count into) → ReadConsumes mid new answer into
     → heard_of answer ≡ Some heard → Hears old new heard into

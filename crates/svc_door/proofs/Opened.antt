@@ -1,4 +1,4 @@
--- The slots of the parts that are due: each is in the list once, and there is room for one more.
+-- The slots of the due parts: each is in the list once, and there is room for one more.
 use Rattle.std.proofs.Common.{◌≡◌, ◌≢◌, ◌⊎◌, ℕ, zero, suc, ◌+◌, ◌<◌, ◌≤◌, ◌==◌, Bool, true, false, cond, not, ◌||◌}
 use Rattle.std.proofs.Common.{is_some, count_by, List, [], ◌∷◌, length, get_or, Option, Some, None, IsSome, IsSomeAnd}
 use Rattle.std.proofs.Common.{inl, inr, refl, sym, ap, ◌∙◌, subst, arith, zero-add, true≢false, ⊎_elim}
@@ -49,7 +49,7 @@ times-filter p slot (x ∷ xs) = by (p x) refl (times-filter p slot xs)
         (λ s. r ∙ ap (λ n. cond (p slot) n 0) (sym (times-apart slot x xs s.0)))
         (eqb_tells x slot)
 
--- a slot that is in a list is there once at least
+-- a slot that is in a list occurs at least once
 times-some : (slot : ℕ) (slots : List ℕ) → list_any (eqb slot) slots ≡ true → 0 < times slot slots
 times-some slot [] h = absurd (true≢false (sym h))
 times-some slot (x ∷ xs) h = ⊎_elim
@@ -67,7 +67,7 @@ apart-none slot (x ∷ xs) h = ⊎_elim
     (e, apart-none slot xs (sym (times-apart slot x xs s.0) ∙ h)))
     (eqb_tells x slot)
 
--- slots that are in a list once at most
+-- slots that each occur at most once in a list
 distinct-once : (slots : List ℕ) → ((slot : ℕ) → times slot slots ≤ 1) → IsDistinct eqb slots
 unfolding IsDistinct
 distinct-once [] h = tt
@@ -109,7 +109,8 @@ module _ {X : Type 0} where
       by true r = refl
       by false r = r
 
-  -- Slots of cells that have a value, each once, and one that is not among them: there are fewer than such cells.
+  -- If these slots of cells with a value are different, and another such slot is not among them, they are fewer than
+  -- all such cells.
   pub fewer-slots : (cells : List (Option X)) (slots : List ℕ) (at : ℕ)
       → ((slot : ℕ) → times slot slots ≤ cond (is_some (get_or cells slot None)) 1 0)
       → times at slots ≡ 0 → is_some (get_or cells at None) ≡ true → length slots < count_by is_some cells
@@ -144,7 +145,7 @@ never-due None p h d = d
 never-due (Some at) p h d = absurd (true≢false h)
 
 module _ {P : Type 0} {sinks : Ghosts P} where
-  -- a part that is due has its slot in the list once, and another's slot is not in it
+  -- the slot of a due part is in the list once, and that of any other part is not in it
   open-is : (parts : Slab (Part P sinks)) (slots : List ℕ) → AreOpen parts slots → (slot : ℕ)
       → ((is_some (due_at parts slot) ≡ true) × (times slot slots ≡ 1))
       ⊎ ((is_some (due_at parts slot) ≡ false) × (times slot slots ≡ 0))
@@ -156,13 +157,13 @@ module _ {P : Type 0} {sinks : Ghosts P} where
   due-there None h = h
   due-there (Some part) h = refl
 
-  -- a part that is not due keeps as it is
+  -- a part that is not due does not change
   turns-none : (now : ℕ) (cell : Option (Part P sinks)) → is_some (option_and_then (λ part. part.due) cell) ≡ false
       → TurnsIfDue now cell cell
   turns-none now None h = refl
   turns-none now (Some part) h = inr (never-due part.due (λ due. due ≤ now) h, refl)
 
-  -- the turns of the slots of all parts that are due
+  -- the turns of the slots of all due parts
   pub turned-each : (now : ℕ) (slots : List ℕ) (old new : Slab (Part P sinks)) → AreOpen old slots
       → TurnsOf now slots old new → HaveTurns now old new
   turned-each now slots old new o t slot = ⊎_elim

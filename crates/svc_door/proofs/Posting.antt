@@ -1,4 +1,4 @@
--- A connection goes on: a byte is posted, bytes are read, or none are.
+-- A connection continues: a byte is posted, bytes are read, or none are.
 use Rattle.std.proofs.Common.{◌≡◌, ℕ, Bool, ◌+◌, ◌<◌, ◌≤◌, List, [], ◌∷◌, ◌++◌, length, take, drop, slice_index, Option}
 use Rattle.std.proofs.Common.{refl, sym, ap, ◌∙◌, subst, append_assoc, append-nil, add-one, arith, length-append}
 use Rattle.std.proofs.Math.Seq.{drop-cons}
@@ -61,7 +61,7 @@ Posts-read a u w none gives count most = record {
   on = record { read = w.kept; gives = gives; count = count; most = most; order = ap (λ l. l ++ w.kept) (sym none) };
 }
 
--- one goes on, and then another
+-- first one such step, and then another
 pub Posts-then : (a b c : List ℕ) (u v w : ConnectionState) → Posts a b u v → Posts b c v w → Posts a c u w
 Posts-then a b c u v w p q = record {
   posted = p.posted ++ q.posted;
@@ -79,7 +79,7 @@ Posts-then a b c u v w p q = record {
 
 -- Over turns
 
--- of a connection that begins nothing is posted
+-- nothing is posted from a connection that begins
 pub posted-beginning : (accepted : List ℕ) (left : Option (List ℕ)) (said : Option Heard) (watched : Bool) (now : ℕ)
     (v : ConnectionState) → v ≡ beginning left said watched now → HasPostedLast accepted v
 posted-beginning accepted left said watched now v is = subst (HasPostedLast accepted) (sym is) (record {

@@ -1,4 +1,4 @@
--- Which parts are to have a turn without an event, and when. A part has a slot.
+-- Which parts will have a turn without an event, and when. Each part has a slot.
 use Rattle.std.specs.Prelude.{ℕ, List, is_some, Option, None, option_and_then}
 use Rattle.std.specs.List.{filter, fold}
 use Rattle.slab.specs.Slab.{Slab, get}
@@ -11,7 +11,7 @@ module _ {P : Type 0} {sinks : Ghosts P} where
   abbrev pub due_at : Slab (Part P sinks) → (slot : ℕ) → Option ℕ
   due_at parts slot = option_and_then (λ part. part.due) (get parts slot)
 
-  -- those of these slots whose parts are due
+  -- those of these slots that have a due part
   abbrev pub due_slots : Slab (Part P sinks) → (slots : List ℕ) → List ℕ
   due_slots parts slots = filter (λ slot. is_some (due_at parts slot)) slots
 

@@ -1,4 +1,4 @@
--- What a read of a connection comes to.
+-- The result of a read of a connection.
 use Rattle.std.specs.Prelude.{ℕ, ◌<◌, ◌≤◌, ◌==◌, if◌then◌else◌, List, length, take, Option, Some, None, Result, Ok, Err}
 use Rattle.std.specs.declared.io.ErrorKind.{ErrorKind}
 use Rattle.std.specs.declared.io.ErrorKind.TheVariants.{Interrupted, WouldBlock}
@@ -8,19 +8,19 @@ use Rattle.std.specs.Io.KnownBytes.{Consumes, Keeps, IsAtEnd}
 use Rattle.svc_door.specs.declared.byte_source.Heard.{Heard}
 use Rattle.svc_door.specs.declared.byte_source.Heard.TheVariants.{Bytes, Nothing, End, Fault}
 
--- what an error of a read says: that it would wait is no fault, and one that was interrupted says nothing
+-- what an error of a read means: an error that it would wait is no fault, and an interrupted read means nothing
 abbrev pub heard_at : ErrorKind → Option Heard
 heard_at Interrupted = None
 heard_at WouldBlock = Some Nothing
 heard_at _ = Some Fault
 
--- what an answer of a read says, where the buffer had room: no bytes are the end
+-- what the result of a read means, if the buffer had room: no bytes mean the end
 abbrev pub heard_of : Result ℕ Error → Option Heard
 heard_of (Ok count) = if count == 0 then Some End else Some (Bytes count)
 heard_of (Err fault) = heard_at (error_kind fault)
 
--- What a connection said, by the bytes that it had left and has left, and the buffer: it gave so many bytes, 1 at
--- least, which are at the buffer's front; or none, and at its end none is left.
+-- What a connection gave, by the bytes that it had left and now has left, and by the buffer. Either it gave this many
+-- bytes, at least one, which are at the buffer's front; or it gave none, and at its end none are left.
 abbrev pub Hears : (old new : Option (List ℕ)) → Heard → List ℕ → Type 0
 Hears old new (Bytes count) into = (0 < count) × (count ≤ length into) × Consumes old new (take count into)
 Hears old new Nothing into = Keeps old new

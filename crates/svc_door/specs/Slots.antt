@@ -8,7 +8,7 @@ use Rattle.svc_door.specs.declared.byte_sink.ByteSink.{Ghosts}
 use Rattle.svc_door.specs.declared.part.Part.{Part}
 use Rattle.svc_door.specs.Dues.{due_at}
 
--- how often a slot is in a list
+-- how often a slot occurs in a list
 abbrev pub times : (slot : ℕ) → List ℕ → ℕ
 times slot slots = count_by (λ other. other == slot) slots
 
@@ -26,7 +26,7 @@ module _ {P : Type 0} {sinks : Ghosts P} where
     pub due : part.due ≡ None
     pub connection : part.connection ≡ None
 
-  -- A part that begins has a slot that was free, which its events name, and each other slot is as it was.
+  -- A part that begins gets a slot that was free, which its events name. Each other slot is as it was.
   pub record Admits (number : ℕ) (sink : P) (control ok : UnixListener) (old new : Slab (Part P sinks)) : Type 0 where
     pub slot : ℕ
     pub part : Part P sinks
@@ -36,8 +36,8 @@ module _ {P : Type 0} {sinks : Ghosts P} where
     pub has : get new slot ≡ Some part
     pub others : (other : ℕ) → other ≢ slot → get new other ≡ get old other
 
-  -- The part of this number left its slot, which is no more among those that have a turn, and gave its sink back. All
-  -- else is as it was.
+  -- The part with this number left its slot, and gave its sink back. The slot is no longer among those that have a
+  -- turn. All else is as it was.
   pub record Dismisses (number : ℕ) (sink : P) (old new : Slab (Part P sinks)) (slots slots_now : List ℕ)
       : Type 0 where
     pub slot : ℕ
@@ -49,6 +49,6 @@ module _ {P : Type 0} {sinks : Ghosts P} where
     pub others : (other : ℕ) → other ≢ slot → get new other ≡ get old other
     pub turns : slots_now ≡ filter (λ other. not (other == slot)) slots
 
-  -- Each part that is due has its slot among these once, and no other slot is among them.
+  -- The slot of each due part is among these once, and no other slot is.
   abbrev pub AreOpen : Slab (Part P sinks) → (slots : List ℕ) → Type 0
   AreOpen parts slots = (slot : ℕ) → times slot slots ≡ (if is_some (due_at parts slot) then 1 else 0)

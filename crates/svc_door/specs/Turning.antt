@@ -1,4 +1,4 @@
--- What the turns of the door do to its parts, each in a slot.
+-- What the turns of the door do to its parts, each of them in a slot.
 use Rattle.std.specs.Prelude.{◌≡◌, ◌⊎◌, ℕ, ◌<◌, ◌≤◌, List, map, Option, Some, None, IsSomeAnd}
 use Rattle.mio.specs.Event.{event_token}
 use Rattle.mio.specs.declared.event.event.Event.{Event}
@@ -9,17 +9,17 @@ use Rattle.svc_door.specs.Listening.{IsSame}
 use Rattle.svc_door.specs.Slots.{times}
 use Rattle.svc_door.specs.Turns.{TakesTurn}
 
--- the slot that an event names
+-- the slot in an event's token
 abbrev pub slot_of : Event → ℕ
 slot_of event = (event_token event).0
 
 module _ {P : Type 0} {sinks : Ghosts P} (now : ℕ) where
-  -- A part is due by now.
+  -- A part is due now.
   abbrev pub IsDue : Part P sinks → Type 0
   IsDue part = IsSomeAnd part.due (λ due. due ≤ now)
 
-  -- A part had its turn. It keeps its number, its token and its listeners, and its sink posts by the same sender of the
-  -- same mailbox.
+  -- A part had its turn. It keeps its number, its token and its listeners. Its sink posts through the same sender of
+  -- the same mailbox.
   pub record HadTurn (old new : Part P sinks) : Type 0 where
     pub number : new.number ≡ old.number
     pub token : new.token ≡ old.token
@@ -28,7 +28,7 @@ module _ {P : Type 0} {sinks : Ghosts P} (now : ℕ) where
     pub turn : TakesTurn (sinks.accepted old.sink) (sinks.accepted new.sink) now new.ok new.control
         old.connection new.connection new.due
 
-  -- The part in a slot had one turn if it was due. Else the slot is as it was.
+  -- The part in a slot had one turn if it was due. Otherwise the slot is as it was.
   abbrev pub TurnsIfDue : (old new : Option (Part P sinks)) → Type 0
   TurnsIfDue None new = new ≡ None
   TurnsIfDue (Some old) new = (IsDue old × IsSomeAnd new (HadTurn old)) ⊎ ((IsDue old → ⊥) × (new ≡ Some old))
@@ -37,13 +37,14 @@ module _ {P : Type 0} {sinks : Ghosts P} (now : ℕ) where
   abbrev pub HaveTurns : (old new : Slab (Part P sinks)) → Type 0
   HaveTurns old new = (slot : ℕ) → TurnsIfDue (get old slot) (get new slot)
 
-  -- These slots had their turns: one that is not among them is as it was, and one that is among them once had its turn.
+  -- These slots had their turns. A slot that is not among them is as it was. A slot that is among them once had its
+  -- turn.
   abbrev pub TurnsOf : (slots : List ℕ) → (old new : Slab (Part P sinks)) → Type 0
   TurnsOf slots old new = (slot : ℕ)
       → (times slot slots ≡ 0 → get new slot ≡ get old slot)
       × (times slot slots ≡ 1 → TurnsIfDue (get old slot) (get new slot))
 
-  -- A part is due now, and else as it was.
+  -- A part is due now, and otherwise as it was.
   pub record IsWoken (old new : Part P sinks) : Type 0 where
     pub due : new.due ≡ Some now
     pub token : new.token ≡ old.token
@@ -57,7 +58,7 @@ module _ {P : Type 0} {sinks : Ghosts P} (now : ℕ) where
   Wakes None new = new ≡ None
   Wakes (Some old) new = IsSomeAnd new (IsWoken old)
 
-  -- Each part whose slot is among these is due now, and each other slot is as it was.
+  -- Each part in one of these slots is due now, and each other slot is as it was.
   abbrev pub WakesEach : (slots : List ℕ) → (old new : Slab (Part P sinks)) → Type 0
   WakesEach slots old new = (slot : ℕ)
       → (times slot slots ≡ 0 → get new slot ≡ get old slot)

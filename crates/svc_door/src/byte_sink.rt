@@ -1,11 +1,12 @@
-//! Where control bytes are posted.
+//! The destination of control bytes.
 use std::alloc::Allocator;
 use std::sync::Wait;
 use svc_house::ControlSender;
 use svc_mail::letter::Full;
 
-/// Where control bytes are posted. Contracts see the bytes that it accepted, in order (`accepted`), by which sender of
-/// which mailbox it posts, if it does (`home`), and what it has to say of itself if it refuses one (`was_full`).
+/// The destination of control bytes. Contracts see the bytes that it accepted, in order (`accepted`), and the sender
+/// and the mailbox that it posts to, if there is one (`home`). If it refuses a byte, they see a fact about its state
+/// (`was_full`).
 pub trait ByteSink {
     ghost use Rattle.std.specs.Prelude.{◌≡◌, ◌++◌, ◌∷◌, [], ℕ, List, Option, None, MatchResult, IfErr};
     ghost use Rattle.atomic_table.specs.Seated.{TableId};
@@ -24,7 +25,7 @@ pub trait ByteSink {
         ensures full { IfErr result (λ full. (full.0 ≡ byte) × was_full self.old) };
 }
 
-/// A service's mailbox accepts what its sender posted, and refuses a byte only where it was full.
+/// A service's mailbox accepts what its sender posted. It refuses a byte only if it was full.
 impl<A: Allocator + Clone> ByteSink for ControlSender<A> {
     ghost use Rattle.std.specs.Prelude.{Some};
     ghost use Rattle.svc_mail.specs.Ends.{home, number_of, posted, WasFull};

@@ -1,16 +1,16 @@
-//! What a connection says.
+//! What a connection gives.
 ghost use Rattle.std.specs.Prelude.{◌≡◌};
 ghost use Rattle.svc_door.specs.Hearing.{heard_of};
 
 use std::io;
 use std::io::{ErrorKind, Read};
 
-/// What one read of a connection came to.
+/// The result of one read of a connection.
 #[derive(Clone, Copy, Debug, PartialEq, Eq)]
 pub enum Heard {
-    /// So many bytes, 1 at least.
+    /// It gave this many bytes, at least one.
     Bytes(usize),
-    /// It has none for now.
+    /// It has no bytes for now.
     Nothing,
     /// It has ended.
     End,
@@ -18,8 +18,8 @@ pub enum Heard {
     Fault,
 }
 
-/// A connection that is read. Contracts see the bytes that it has left, where they are known (`left`), and what it said
-/// last, where it keeps that (`said`).
+/// A connection that is read. Contracts see the bytes that it has left, if they are known (`left`), and the result of
+/// the last read, if it keeps that (`said`).
 pub trait ByteSource {
     ghost use Rattle.std.specs.Prelude.{◌≡◌, ◌<◌, ℕ, Option, None, List, length, IfSome};
     ghost use Rattle.svc_door.specs.declared.byte_source.Heard.{Heard};
@@ -36,7 +36,7 @@ pub trait ByteSource {
         ensures said { IfSome (said self.new) (λ heard. heard ≡ result) };
 }
 
-/// What an answer of a read comes to. None: it was interrupted, and is tried again.
+/// Returns what the result of a read means. `None`: it was interrupted, and is tried again.
 fn heard_of(answer: io::Result<usize>) -> Option<Heard>
     ensures { result ≡ heard_of answer }
 {
@@ -51,7 +51,7 @@ fn heard_of(answer: io::Result<usize>) -> Option<Heard>
     }
 }
 
-/// A reader is a connection. It does not keep what it said, since a reader over the system knows of no past.
+/// A reader is a connection. It does not keep its last result, since a reader over the system knows no past.
 impl<S: Read> ByteSource for S {
     ghost left = { S.remaining };
 

@@ -6,29 +6,29 @@ use std::marker::Model;
 use std::sync::Wait;
 use svc_mail::letter::Full;
 
-/// The most bytes of a connection that are read. Then it is over.
+/// The most bytes that are read from a connection. After them it is over.
 pub const MOST: usize = 4096;
 
 /// The most bytes of one read.
 pub const PIECE: usize = 64;
 
-/// How a turn leaves a connection.
+/// The state in which a turn leaves a connection.
 #[derive(Clone, Copy, Debug, PartialEq, Eq)]
 pub enum Turn {
-    /// All that was read is posted, and the connection has nothing for now.
+    /// All that was read is posted, and the connection has no bytes for now.
     Waits,
-    /// The sink refused a byte, which is kept and comes first in the next turn.
+    /// The sink refused a byte. It is kept, and comes first in the next turn.
     Full,
-    /// All that was read is posted, and the connection has ended or failed, or 4096 bytes of it were posted.
+    /// All that was read is posted. Either the connection has ended or failed, or 4096 bytes from it were posted.
     Ended,
 }
 
-/// One connection that gives control bytes, and when it spoke last. At each turn a sink is lent to it. Contracts see it
-/// as `ConnectionState`; `law::turns_post_the_first_bytes` says what its turns come to together.
+/// One connection that gives control bytes, and when it last gave some. Each turn lends it a sink. Contracts see it as
+/// `ConnectionState`. `law::turns_post_the_first_bytes` states what its turns do together.
 #[derive(Drop)]
 pub struct Connection<G: ByteSource> {
     source: G,
-    // What was read last, and which of it is not posted.
+    // What was read last, and which part of it is not posted yet.
     piece: [u8; PIECE],
     from: usize,
     to: usize,
@@ -66,7 +66,8 @@ impl<G: ByteSource> Connection<G> {
     ghost use Rattle.svc_door.specs.declared.connection.TheConstants.{MOST};
     ghost use Rattle.svc_door.specs.declared.connection.Turn.TheVariants as turn;
 
-    /// A connection that begins now: nothing of it is read. `watched` says whether an event announces its bytes.
+    /// Returns a connection that begins now: nothing from it is read. `watched` says whether an event announces its
+    /// bytes.
     pub fn new(source: G, watched: bool, now: u64) -> Connection<G>
         ensures { result ≡ beginning (G.left source) (G.said source) watched now }
     {
@@ -81,11 +82,11 @@ impl<G: ByteSource> Connection<G> {
         }
     }
 
-    /// Reads what the connection has, and posts it byte by byte. It may wait as the sink may, and takes no memory.
+    /// Reads what the connection has, and posts it byte by byte. It may wait as the sink may, and needs no memory.
     ///
-    /// `Waits` only where the connection said that it has nothing for now. `Full` only where the sink refused the byte
-    /// that comes next: that is kept, and nothing is read before it is posted. `Ended` exactly where 4096 bytes were
-    /// posted, or the connection ended or failed; a further turn reads again, if fewer than 4096 bytes were read.
+    /// `Waits` is returned only if the connection had no bytes for now. `Full` is returned only if the sink refused the
+    /// next byte: it is kept, and nothing is read before it is posted. `Ended` is returned exactly if 4096 bytes were
+    /// posted, or the connection ended or failed. A further turn reads again, if fewer than 4096 bytes were read.
     pub fn turn<R: Wait, P: ByteSink>(&mut self, rt: &R, sink: &mut P, now: u64) -> Turn
         ensures posts { Posts (P.accepted sink.old) (P.accepted sink.new) self.old self.new }
         ensures home { P.home sink.new ≡ P.home sink.old }
@@ -100,7 +101,8 @@ impl<G: ByteSource> Connection<G> {
         turn
     }
 
-    /// When the connection is looked at again after such a turn. None: it is over, or was silent for 5 s.
+    /// Returns when the door looks at the connection again after such a turn. `None`: it is over, or was silent for 5
+    /// s.
     pub fn next_look(&self, turn: Turn, now: u64) -> Option<u64>
         ensures { result ≡ looked_at turn self.now.watched self.now.spoke now }
     {
@@ -132,7 +134,7 @@ impl<G: ByteSource> Connection<G> {
         Turn::Ended
     }
 
-    // Posts what is kept, and says whether all of it was accepted.
+    // Posts what is kept. Returns whether all of it was accepted.
     fn post_kept<R: Wait, P: ByteSink>(&mut self, rt: &R, sink: &mut P) -> bool
         ensures posts { Posts (P.accepted sink.old) (P.accepted sink.new) self.old self.new }
         ensures home { P.home sink.new ≡ P.home sink.old }
@@ -152,7 +154,7 @@ impl<G: ByteSource> Connection<G> {
         true
     }
 
-    // Reads once, no more than there may be.
+    // Reads once, no more than the connection may still give.
     fn read(&mut self) -> Heard
         requires none { self.old.kept ≡ [] }
         requires some { self.old.taken < MOST }

@@ -11,10 +11,10 @@ use std::thread::{Builder, JoinHandle, Threads};
 use std::time::{Clock, Duration};
 use std::{io, thread};
 
-/// How many events one poll gives at most.
+/// The most events that one poll gives.
 const EVENTS: usize = 256;
 
-/// How many milliseconds the thread rests where a poll failed.
+/// How many milliseconds the thread rests after a poll failed.
 const FAILED: u64 = 100;
 
 // What the handle and the thread share.
@@ -25,9 +25,9 @@ struct DoorShared<P: ByteSink> {
     waker: Waker,
 }
 
-/// The door: a thread that answers at the control and ok sockets of all parts that are admitted.
+/// The door: a thread that serves the control and ok sockets of all admitted parts.
 ///
-/// A door that is dropped, and not closed, goes on with its parts for as long as the process runs.
+/// A door that is dropped without being closed continues with its parts as long as the process runs.
 #[derive(Drop)]
 pub struct Door<P: ByteSink> {
     shared: Arc<DoorShared<P>, Global>,
@@ -57,10 +57,10 @@ impl<P: ByteSink + Send + Drop + 'static> Door<P> {
         Ok(Door { shared, thread })
     }
 
-    /// Answers at the sockets of a part from now on. `number`, which no other part at the door has, names it.
+    /// Serves the sockets of a part from now on. `number` names the part, and no other part at the door has it.
     ///
-    /// At a fault, as want of memory, nothing of the part is at the door, both listeners are closed, and the sink is
-    /// given back.
+    /// After a fault, such as a lack of memory, nothing of the part is at the door, both listeners are closed, and the
+    /// sink is given back.
     pub fn admit<R: Wait>(
         &self,
         rt: &R,
@@ -77,8 +77,8 @@ impl<P: ByteSink + Send + Drop + 'static> Door<P> {
             .admit(number, sink, control, ok, &self.shared.registry)
     }
 
-    /// Closes the listeners and the connection of a part, and hands its sink back: nothing is posted by it any more.
-    /// None: no part of this number is at the door.
+    /// Closes the listeners and the connection of a part, and returns its sink: nothing more is posted through it.
+    /// `None`: no part with this number is at the door.
     pub fn dismiss<R: Wait>(&self, rt: &R, number: u64) -> Option<P> {
         self.shared.table.lock(rt).dismiss(number)
     }
@@ -92,7 +92,7 @@ impl<P: ByteSink + Send + Drop + 'static> Door<P> {
     }
 }
 
-/// The running clock, in milliseconds.
+/// Reads the running clock, in milliseconds.
 fn time(clock: &impl Clock) -> u64 {
     in_millis(clock.monotonic())
 }
@@ -113,7 +113,7 @@ where
         .spawn(&rt, move || run(&rt, poll, events, &shared))
 }
 
-/// What the door's thread does.
+/// Runs the door's thread.
 fn run<R: Wait + Clock, P: ByteSink + Drop>(
     rt: &R,
     mut poll: Poll,

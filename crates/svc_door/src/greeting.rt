@@ -8,7 +8,7 @@ use crate::rests::after_refusal;
 /// The most connections to `ok` that one turn accepts.
 const GREETED: u32 = 16;
 
-/// Accepts connections to `ok`, which are closed, and says when it is looked at again.
+/// Accepts connections to `ok` and closes them. Returns when the door looks at `ok` again.
 pub fn greet(ok: &mut Listener, now: u64) -> Option<u64>
     ensures greets { Greets ok.new now result }
     ensures same { IsSame ok.old ok.new }

@@ -1,9 +1,9 @@
-//! What the turns of one connection come to together.
+//! What the turns of one connection do together.
 ghost use Rattle.svc_door.specs.Connection.{TurnsPostTheFirstBytes};
 
-/// A law of connections. Whatever a connection gave and whatever of it was refused meanwhile: the bytes that were
-/// posted in all its turns, and then those that are kept, are the first that it gave, in order and each once, and 4096
-/// at most. A part at the door keeps this of its connection, turn by turn.
+/// States a law of connections, for any bytes of a connection and any refusals meanwhile. The bytes that were posted in
+/// all its turns, followed by those that are kept, are the first that it gave. They are in order, each once, and at
+/// most 4096. A part at the door keeps this of its connection from turn to turn.
 pub fn turns_post_the_first_bytes()
     ensures { TurnsPostTheFirstBytes }
 {}

@@ -1,4 +1,4 @@
-//! A listener, and what it came to when it was asked.
+//! A listener, and the result when it was last asked.
 ghost use Rattle.std.specs.Prelude.{◌≡◌, ◌+◌, ◌-◌, ◌^◌, min, None, Some, IfErr, OnOk, OnErr};
 ghost use Rattle.std.specs.IoError.{error_kind};
 ghost use Rattle.svc_door.specs.Listening.{IsSame};
@@ -8,8 +8,8 @@ use mio::{Interest, Registry, Token};
 use std::io;
 use std::io::ErrorKind;
 
-/// A listener. Contracts see by which token the registry watches it, if it does (`watched`), how many connections it
-/// gave since they were last counted anew (`given`), and why it gave none when it was asked last, if it gave none
+/// A listener. Contracts see the token by which the registry watches it, if it does (`watched`), and how many
+/// connections it gave since the count was last reset (`given`). If it gave none when it was last asked, they see why
 /// (`refused`).
 #[derive(Drop)]
 pub struct Listener {
@@ -20,7 +20,7 @@ pub struct Listener {
 }
 
 impl Listener {
-    /// The listener of a socket.
+    /// Returns the listener of a socket.
     pub fn new(socket: UnixListener) -> Listener
         ensures { result.socket ≡ socket }
     {
@@ -32,7 +32,7 @@ impl Listener {
         }
     }
 
-    /// Has the registry watch it.
+    /// Makes the registry watch the listener.
     pub fn register(&mut self, registry: &Registry, token: Token) -> io::Result<()>
         ensures watched { OnOk result (self.new.watched ≡ Some token) }
         ensures socket { self.new.socket ≡ self.old.socket }
@@ -42,7 +42,7 @@ impl Listener {
         Ok(())
     }
 
-    /// Counts its connections anew.
+    /// Resets the count of its connections.
     pub fn count_anew(&mut self)
         ensures given { self.new.given ≡ 0 }
         ensures same { IsSame self.old self.new }
@@ -50,7 +50,7 @@ impl Listener {
         self.given = 0;
     }
 
-    /// The next connection. It does not wait.
+    /// Returns the next connection. Does not wait.
     pub fn accept(&mut self) -> io::Result<UnixStream>
         ensures given { OnOk result (self.new.given ≡ min (self.old.given + 1) (2 ^ 32 - 1)) }
         ensures none { OnErr result (self.new.given ≡ self.old.given) }

@@ -12,14 +12,14 @@ use mio::{Interest, Registry, Token};
 use std::io;
 use std::sync::Wait;
 
-/// A part: its two listeners, and its control connection, where there is one.
+/// A part: its two listeners, and its control connection, if there is one.
 #[derive(Drop)]
 pub struct Part<P: ByteSink> {
-    /// The life that it is of.
+    /// The number of its life.
     pub number: u64,
-    /// What the events of its listeners and of its connection name.
+    /// The token of its listeners and of its connection, which their events name.
     pub token: Token,
-    /// When it is to have a turn without an event. None: only at an event.
+    /// When it has a turn without an event. `None`: only at an event.
     pub due: Option<u64>,
     control: Listener,
     ok: Listener,
@@ -37,7 +37,7 @@ impl<P: ByteSink + Drop> Part<P> {
     ghost use Rattle.svc_door.specs.Looks.{LooksAgainAt, HasClosed};
     ghost use Rattle.svc_door.specs.Turns.{GoesOnWith, HasTurn, Serves, TakesTurn};
 
-    /// A part with no connection.
+    /// Returns a part with no connection.
     pub fn new(
         number: u64,
         token: Token,
@@ -63,7 +63,7 @@ impl<P: ByteSink + Drop> Part<P> {
         }
     }
 
-    /// Has the registry watch both listeners.
+    /// Makes the registry watch both listeners.
     pub fn register(&mut self, registry: &Registry) -> io::Result<()>
         ensures token { self.new.token ≡ self.old.token }
         ensures number { self.new.number ≡ self.old.number }
@@ -79,7 +79,7 @@ impl<P: ByteSink + Drop> Part<P> {
         self.ok.register(registry, self.token)
     }
 
-    /// Its sink. Its listeners and its connection are closed.
+    /// Returns the sink. Closes the listeners and the connection.
     pub fn into_sink(self) -> P
         ensures { result ≡ self.sink }
     {
@@ -87,7 +87,7 @@ impl<P: ByteSink + Drop> Part<P> {
         sink
     }
 
-    /// Whether it is to have its turn now.
+    /// Returns whether the part has its turn now.
     pub fn is_due(&self, now: u64) -> bool
         ensures { IsTrue result ↔ IsSomeAnd self.now.due (λ due. due ≤ now) }
     {
@@ -97,9 +97,10 @@ impl<P: ByteSink + Drop> Part<P> {
         }
     }
 
-    /// Accepts some connections to `ok`, which are closed, and goes on with the control connection, or begins with the
-    /// next one: at most 4096 bytes of one. Says when it is to have the next turn.
-    /// While there is a connection it is due; and at once where the one that it had is over.
+    /// Accepts some connections to `ok`, and closes them. Then continues with the control connection, or begins with
+    /// the next one: at most 4096 bytes of one connection. Sets when the part has its next turn.
+    ///
+    /// A part with a connection is due at some time. If the connection that it had is over, it is due at once.
     pub fn turn<R: Wait>(&mut self, rt: &R, registry: &Registry, now: u64)
         ensures due { IsSome self.new.connection → IsSome self.new.due }
         ensures next { HasClosed self.old.connection self.new.connection
@@ -132,7 +133,7 @@ impl<P: ByteSink + Drop> Part<P> {
         }
     }
 
-    // Has a connection to go on with: the one that there is, or the next one that comes.
+    // Provides a connection to continue with: the one that there is, or the next one that comes.
     fn connect(&mut self, registry: &Registry, now: u64) -> io::Result<()>
         ensures with_one { OnOk result ((connection : ConnectionState)
             × (self.new.connection ≡ Some connection) × GoesOnWith now self.old.connection connection) }
@@ -164,7 +165,7 @@ impl<P: ByteSink + Drop> Part<P> {
         self.connection = Some(Connection::new(stream, watched, now));
     }
 
-    // Goes on with the connection. Where there is none any more, the next one is looked for at once.
+    // Continues with the connection. If there is none any more, the next one is looked for at once.
     fn hear<R: Wait>(&mut self, rt: &R, now: u64) -> u64
         ensures over { IsNone self.new.connection → result ≡ now }
         ensures looks { LooksAgainAt self.old.connection self.new.connection now result }

@@ -1,4 +1,4 @@
-//! When something at the door is looked at again. Times are milliseconds of a clock that runs on.
+//! When the door looks at something again. Times are milliseconds of a clock that never goes back.
 ghost use Rattle.std.specs.Prelude.{◌≡◌};
 ghost use Rattle.std.specs.Duration.{as_nanos};
 ghost use Rattle.std.specs.IoError.{error_kind};
@@ -10,16 +10,16 @@ use std::io;
 use std::io::ErrorKind;
 use std::time::Duration;
 
-/// How long a byte that was refused waits.
+/// How long a refused byte waits.
 const RETRY: u64 = 1;
 
-/// How long a connection waits for which there are no descriptors or no memory.
+/// How long a connection waits if there are no descriptors or no memory for it.
 const SHORTAGE: u64 = 100;
 
 /// How long a connection may be silent.
 const SILENCE: u64 = 5000;
 
-/// The sooner of two times. None is never.
+/// Returns the earlier of two times. `None` is never.
 pub fn sooner(one: Option<u64>, other: Option<u64>) -> Option<u64>
     ensures { result ≡ sooner_of one other }
 {
@@ -30,7 +30,7 @@ pub fn sooner(one: Option<u64>, other: Option<u64>) -> Option<u64>
     }
 }
 
-/// When a listener is looked at again that gave no connection.
+/// Returns when the door looks again at a listener that gave no connection.
 pub fn after_refusal(fault: &io::Error, now: u64) -> Option<u64>
     ensures { result ≡ refused_until (error_kind fault.now) now }
 {
@@ -41,7 +41,7 @@ pub fn after_refusal(fault: &io::Error, now: u64) -> Option<u64>
     }
 }
 
-/// When a connection spoke last, after a turn in which it gave bytes or none.
+/// Returns when a connection last gave bytes, after a turn in which it gave some or none.
 pub fn spoken(turn: Turn, gave: bool, spoke: u64, now: u64) -> u64
     ensures { result ≡ spoke_at turn gave spoke now }
 {
@@ -52,7 +52,7 @@ pub fn spoken(turn: Turn, gave: bool, spoke: u64, now: u64) -> u64
     }
 }
 
-/// When a connection is looked at again after a turn. None: it is over, or was silent for too long.
+/// Returns when the door looks at a connection again after a turn. `None`: it is over, or was silent for too long.
 pub fn next_look(turn: Turn, watched: bool, spoke: u64, now: u64) -> Option<u64>
     ensures { result ≡ looked_at turn watched spoke now }
 {
@@ -66,7 +66,7 @@ pub fn next_look(turn: Turn, watched: bool, spoke: u64, now: u64) -> Option<u64>
     }
 }
 
-/// How long a poll waits at most. None: until an event comes.
+/// Returns how long a poll waits at most. `None`: until an event comes.
 pub fn poll_limit(due: Option<u64>, now: u64) -> Option<Duration>
     ensures { option_map as_nanos result ≡ polled_for due now }
 {
@@ -76,7 +76,7 @@ pub fn poll_limit(due: Option<u64>, now: u64) -> Option<Duration>
     }
 }
 
-/// A reading of the running clock, in milliseconds.
+/// Returns a reading of the running clock in milliseconds.
 pub fn in_millis(reading: io::Result<Duration>) -> u64
     ensures { result ≡ millis_of reading }
 {

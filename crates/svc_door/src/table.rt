@@ -18,13 +18,13 @@ use std::alloc::Global;
 use std::io;
 use std::sync::Wait;
 
-/// The token of the door's own waker. A part has the number of its slot, which is less.
+/// The token of the door's own waker. The token of a part is the number of its slot, which is less.
 pub const WAKER: Token = Token(usize::MAX);
 
-/// What is given back of a part that was not admitted.
+/// What is given back for a part that was not admitted.
 #[derive(Drop)]
 pub struct NotAdmitted<P: ByteSink> {
-    /// Where its control bytes were to be posted.
+    /// The destination of its control bytes.
     pub sink: P,
     /// Why it was not admitted.
     pub fault: io::Error,
@@ -33,13 +33,13 @@ pub struct NotAdmitted<P: ByteSink> {
 /// What the door's thread does next.
 #[derive(Clone, Copy, Debug, PartialEq, Eq)]
 pub enum Next {
-    /// It ends.
+    /// It exits.
     Ends,
     /// It polls until an event comes, or until this time.
     Polls(Option<u64>),
 }
 
-/// The parts, each in a slot, and the slots of those that are to have a turn without an event.
+/// The parts, each in a slot, and the slots of those that have a turn without an event.
 #[derive(Drop)]
 pub struct Table<P: ByteSink> {
     ends: bool,
@@ -50,7 +50,7 @@ pub struct Table<P: ByteSink> {
 }
 
 impl<P: ByteSink + Drop> Table<P> {
-    /// A table with no part.
+    /// Returns a table with no part.
     pub fn new(alloc: Global) -> Table<P>
         ensures parts { (slot : ℕ) → get result.parts slot ≡ None }
         ensures ends { result.ends ≡ false }
@@ -62,8 +62,8 @@ impl<P: ByteSink + Drop> Table<P> {
         }
     }
 
-    /// Has the registry watch a part that begins, and puts it into a slot. At a fault the slots are as they were, and
-    /// the part's sink is given back.
+    /// Makes the registry watch a part that begins, and puts the part into a slot. After a fault the slots are as they
+    /// were, and the part's sink is given back.
     pub fn admit(
         &mut self,
         number: u64,
@@ -92,7 +92,7 @@ impl<P: ByteSink + Drop> Table<P> {
         }
     }
 
-    // Has the registry watch a part, once there is room for it and for its turns.
+    // Makes the registry watch a part, after there is room for it and for its turns.
     fn watch(&mut self, part: &mut Part<P>, registry: &Registry) -> io::Result<()>
         ensures room { OnOk result (HasRoomFor self.new.parts 1) }
         ensures room_for_turns { OnOk result (slab_len self.new.parts + 1 ≤ vec_capacity self.new.open_slots) }
@@ -120,7 +120,7 @@ impl<P: ByteSink + Drop> Table<P> {
         part.register(registry)
     }
 
-    /// Takes the part of a life out of its slot, and gives its sink back. None: no part has this number.
+    /// Takes the part of a life out of its slot, and returns its sink. `None`: no part has this number.
     pub fn dismiss(&mut self, number: u64) -> Option<P>
         ensures dismissed { IfSome result (λ sink. Dismisses number sink self.old.parts self.new.parts
             self.old.open_slots.items self.new.open_slots.items) }
@@ -148,7 +148,7 @@ impl<P: ByteSink + Drop> Table<P> {
         None
     }
 
-    /// An event names a token: its part, if there is one, is due now.
+    /// Makes the part that an event's token names due now, if there is one.
     pub fn wake(&mut self, token: Token, now: u64)
         ensures wakes { Wakes now (get self.old.parts token.0) (get self.new.parts token.0) }
         ensures others { (other : ℕ) → other ≢ token.0 → get self.new.parts other ≡ get self.old.parts other }
@@ -172,7 +172,7 @@ impl<P: ByteSink + Drop> Table<P> {
         }
     }
 
-    /// The door's thread is to end.
+    /// Notes that the door's thread is to exit.
     pub fn end(&mut self)
         ensures ends { self.new.ends ≡ true }
         ensures parts { (slot : ℕ) → get self.new.parts slot ≡ get self.old.parts slot }
@@ -180,7 +180,7 @@ impl<P: ByteSink + Drop> Table<P> {
         self.ends = true;
     }
 
-    /// A poll has given these events. If the thread is to end, nothing is done.
+    /// Handles the events that a poll gave. If the thread is to exit, nothing is done.
     pub fn round<R: Wait>(
         &mut self,
         rt: &R,
@@ -202,7 +202,7 @@ impl<P: ByteSink + Drop> Table<P> {
         Next::Polls(self.turns(rt, registry, now))
     }
 
-    /// Each part that is due has one turn. Then those stay that are due again, and this says when the soonest is.
+    /// Gives each due part one turn. Then keeps those that are due again, and returns when the first of them is.
     pub fn turns<R: Wait>(&mut self, rt: &R, registry: &Registry, now: u64) -> Option<u64>
         ensures turns { HaveTurns now self.old.parts self.new.parts }
         ensures ends { self.new.ends ≡ self.old.ends }
@@ -215,7 +215,7 @@ impl<P: ByteSink + Drop> Table<P> {
     }
 }
 
-/// Gives each part of these slots its turn, where that is due.
+/// Gives each part of these slots its turn, if it is due.
 fn turn_each<R: Wait, P: ByteSink + Drop>(
     rt: &R,
     parts: &mut Slab<Part<P>>,
@@ -231,7 +231,7 @@ fn turn_each<R: Wait, P: ByteSink + Drop>(
     }
 }
 
-/// Gives a part its turn, where that is due.
+/// Gives a part its turn, if it is due.
 fn turn<R: Wait, P: ByteSink + Drop>(
     rt: &R,
     parts: &mut Slab<Part<P>>,
@@ -250,7 +250,7 @@ fn turn<R: Wait, P: ByteSink + Drop>(
     }
 }
 
-/// Has the part in a slot be due now.
+/// Makes the part in a slot due now.
 fn make_due<P: ByteSink + Drop>(parts: &mut Slab<Part<P>>, slot: usize, now: u64)
     ensures wakes { Wakes now (get parts.old slot) (get parts.new slot) }
     ensures others { (other : ℕ) → other ≢ slot → get parts.new other ≡ get parts.old other }
@@ -261,7 +261,7 @@ fn make_due<P: ByteSink + Drop>(parts: &mut Slab<Part<P>>, slot: usize, now: u64
     }
 }
 
-/// When the part in a slot is due.
+/// Returns when the part in a slot is due.
 fn due_at<P: ByteSink + Drop>(parts: &Slab<Part<P>>, slot: usize) -> Option<u64>
     ensures { result ≡ due_at parts.now slot }
 {
@@ -271,7 +271,7 @@ fn due_at<P: ByteSink + Drop>(parts: &Slab<Part<P>>, slot: usize) -> Option<u64>
     }
 }
 
-/// Takes the slots out whose parts are not due.
+/// Removes the slots with parts that are not due.
 fn keep_due<P: ByteSink + Drop>(parts: &Slab<Part<P>>, slots: &mut Vec<usize>)
     ensures due { slots.new.items ≡ due_slots parts.now slots.old.items }
     ensures room { vec_capacity slots.new ≡ vec_capacity slots.old }
@@ -279,7 +279,7 @@ fn keep_due<P: ByteSink + Drop>(parts: &Slab<Part<P>>, slots: &mut Vec<usize>)
     slots.retain(|slot| due_at(parts, *slot).is_some());
 }
 
-/// When the first of these slots is due.
+/// Returns when the first of these slots is due.
 fn soonest_due<P: ByteSink + Drop>(parts: &Slab<Part<P>>, slots: &[usize]) -> Option<u64>
     ensures { result ≡ soonest_due parts.now slots.now }
 {

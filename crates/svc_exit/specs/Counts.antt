@@ -1,11 +1,11 @@
--- How many processes of a service began and ended, and the line of that.
+-- How many processes of a service began and ended, and the line with these counts.
 use Rattle.std.specs.Prelude.{ℕ, ◌+◌, ◌-◌, ◌^◌, min, List, [], ◌∷◌, ◌++◌, codes, decimal}
 use Rattle.svc_exit.specs.declared.counts.Counts.{Counts}
 
 abbrev pub no_counts : Counts
 no_counts = record { starts = 0; deaths = 0 }
 
--- one more; a count stands still at its end
+-- one more; a count stops at its maximum
 abbrev pub one_more : ℕ → ℕ
 one_more count = min (count + 1) (2 ^ 64 - 1)
 

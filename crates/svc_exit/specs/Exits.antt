@@ -8,13 +8,13 @@ use Rattle.svc_exit.specs.declared.ending.Ending.{Ending}
 use Rattle.svc_exit.specs.declared.ending.Ending.TheVariants.{Status, Signal, Unknown}
 use Rattle.svc_exit.specs.declared.exit.Exit.{Exit}
 
--- How a child ended, by what the system says of it: its status where it exited, the signal that ended it, or neither.
+-- How a child ended, by what the system says: its status if it exited, the signal that ended it, or neither.
 abbrev pub EndsBy : ExitStatus → Ending → Type 0
 EndsBy status (Status code) = exit_code status ≡ Some (pos code)
 EndsBy status (Signal number) = (exit_code status ≡ None) × (exit_signal status ≡ Some (pos number))
 EndsBy status Unknown = (exit_code status ≡ None) × (exit_signal status ≡ None)
 
--- the names of the signals of Linux, without their `SIG`
+-- the names of Linux's signals, without `SIG`
 unfoldable pub signal_name : (number : ℕ) → List ℕ
 signal_name number =
     if number == 1 then codes "HUP"
@@ -50,7 +50,7 @@ signal_name number =
     else if number == 31 then codes "SYS"
     else []
 
--- a signal in a line: its name, or the number of one that has none
+-- a signal in a line: its name, or its number if it has no name
 abbrev pub name_or_number : (name : List ℕ) (number : ℕ) → List ℕ
 name_or_number [] number = decimal number
 name_or_number (byte ∷ name) number = byte ∷ name
@@ -58,13 +58,13 @@ name_or_number (byte ∷ name) number = byte ∷ name
 abbrev pub signal_word : (number : ℕ) → List ℕ
 signal_word number = name_or_number (signal_name number) number
 
--- the words of how a process ended
+-- the words for how a process ended
 abbrev pub ending_words : Ending → List ℕ
 ending_words (Status code) = codes " status " ++ decimal code
 ending_words (Signal number) = codes " signal " ++ signal_word number
 ending_words Unknown = codes " unknown"
 
--- the line of a process that ended so at this time
+-- the line of a process that ended in this way at this time
 abbrev pub exit_text : Exit → List ℕ
 exit_text exit =
     decimal exit.pid ++ ending_words exit.ending ++ codes " " ++ label_text exit.label ++ 10 ∷ []
@@ -75,6 +75,6 @@ IsEnding (Status code) = code < 2 ^ 8
 IsEnding (Signal number) = number < 2 ^ 8
 IsEnding Unknown = ⊤
 
--- The text is the line of the process of this number that ended so at this time.
+-- The text is the line of the process with this number that ended in this way at this time.
 abbrev pub Says : (text : List ℕ) (pid : ℕ) (label : Tai64n) → Ending → Type 0
 Says text pid label ending = text ≡ exit_text (record { pid = pid; ending = ending; label = label })

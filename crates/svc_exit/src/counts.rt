@@ -8,12 +8,12 @@ use cmd_base::push_number;
 /// A line of at most 48 bytes.
 pub type CountsText = ArrayString<48>;
 
-/// How many processes of a service began and ended since svscan began. A count stands still at its end.
+/// How many processes of a service began and ended since svscan began. A count stops at its maximum.
 #[derive(Clone, Copy, Debug, PartialEq, Eq)]
 pub struct Counts {
-    /// Starts that made a process.
+    /// The number of starts that made a process.
     pub starts: u64,
-    /// Deaths of those processes.
+    /// The number of deaths of those processes.
     pub deaths: u64,
 }
 
@@ -21,7 +21,7 @@ impl Counts {
     ghost use Rattle.std.specs.Prelude.{◌≡◌};
     ghost use Rattle.svc_exit.specs.Counts.{no_counts, one_ended, one_started};
 
-    /// None of either.
+    /// Returns counts with no start and no death.
     pub fn none() -> Counts
         ensures { result ≡ no_counts }
     {
@@ -31,7 +31,7 @@ impl Counts {
         }
     }
 
-    /// The counts after one more start.
+    /// Returns the counts after one more start.
     pub fn one_started(&self) -> Counts
         ensures { result ≡ one_started self.now }
     {
@@ -41,7 +41,7 @@ impl Counts {
         }
     }
 
-    /// The counts after one more death.
+    /// Returns the counts after one more death.
     pub fn one_ended(&self) -> Counts
         ensures { result ≡ one_ended self.now }
     {
@@ -52,7 +52,7 @@ impl Counts {
     }
 }
 
-/// The line of counts, with its newline: `STARTS DEATHS`.
+/// Returns the line of counts, with its newline: `STARTS DEATHS`.
 pub fn counts_text(counts: &Counts) -> CountsText
     ensures { result.bytes ≡ counts_text counts.now }
 {

@@ -10,15 +10,15 @@ use std::process::ExitStatus;
 /// How a process ended.
 #[derive(Clone, Copy, Debug, PartialEq, Eq)]
 pub enum Ending {
-    /// It exited with this status.
+    /// The process exited with this status.
     Status(u8),
-    /// The signal of this number ended it.
+    /// The signal with this number ended the process.
     Signal(u8),
-    /// That is not known.
+    /// It is not known how the process ended.
     Unknown,
 }
 
-/// How a child ended, by what waiting for it gave.
+/// Returns how a child ended, by the result of waiting for it.
 pub fn ending_of(waited: io::Result<ExitStatus>) -> Ending
     ensures known { IfOk waited (λ status. EndsBy status result) }
     ensures unknown { OnErr waited (result ≡ ending.Unknown) }
@@ -29,7 +29,7 @@ pub fn ending_of(waited: io::Result<ExitStatus>) -> Ending
     }
 }
 
-/// How a child ended that gave this status.
+/// Returns how a child with this status ended.
 fn of_status(status: ExitStatus) -> Ending
     ensures { EndsBy status result }
 {
@@ -48,7 +48,7 @@ fn of_status(status: ExitStatus) -> Ending
     }
 }
 
-/// The name of a signal of Linux, without its `SIG`; of one from 32 on, which has none, nothing.
+/// Returns the name of a Linux signal, without `SIG`. Signals from 32 on have no name, and give an empty text.
 #[tactic(auto, unfolding(crate::specs::Exits::signal_name))]
 pub fn signal_name(number: u8) -> &'static str
     ensures name { result.now ≡ signal_name number }

@@ -12,14 +12,14 @@ use tai_status::{Label, text};
 /// A line of at most 64 bytes.
 pub type ExitText = ArrayVec<u8, 64>;
 
-/// A process that ended: which, how, and when.
+/// A process that ended: its number, how it ended, and when.
 #[derive(Clone, Copy, Debug, PartialEq, Eq)]
 pub struct Exit {
-    /// Its number.
+    /// The number of the process.
     pub pid: u32,
-    /// How it ended.
+    /// How the process ended.
     pub ending: Ending,
-    /// When it was found to have ended.
+    /// When the process was found to have ended.
     pub label: Label,
 }
 
@@ -74,8 +74,8 @@ fn push_ending(out: &mut ExitText, ending: Ending)
     }
 }
 
-/// The line of a process that ended, with its newline: `PID status CODE LABEL`, `PID signal NAME LABEL` or
-/// `PID unknown LABEL`. A signal that has no name is reported by its number.
+/// Returns the line of a process that ended, with its newline: `PID status CODE LABEL`, `PID signal NAME LABEL` or
+/// `PID unknown LABEL`. A signal without a name is written as its number.
 pub fn exit_text(exit: &Exit) -> ExitText
     ensures { result.items ≡ exit_text exit.now }
 {

@@ -1,7 +1,7 @@
-//! What svscan says of a service's processes in two small files: how the last one ended (`supervise/exit`), and how
-//! many began and ended since svscan began (`supervise/counts`).
+//! What svscan writes about a service's processes in two small files: how the last one ended (`supervise/exit`), and
+//! how many began and ended since svscan began (`supervise/counts`).
 //!
-//! `exit_text` and `counts_text` make their lines; `read_ending` reads exactly the lines that `exit_text` makes.
+//! `exit_text` and `counts_text` make their lines. `read_ending` reads exactly the lines that `exit_text` makes.
 #![tactic(auto)]
 
 mod counts;

@@ -1,4 +1,4 @@
-//! Reading how a process ended off its line.
+//! Reading from its line how a process ended.
 ghost use Rattle.std.specs.Prelude.{◌≡◌, ◌↔◌, None, IfSome, IsTrue};
 ghost use Rattle.svc_exit.specs.Exits.{IsEnding, Says};
 ghost use Rattle.svc_exit.specs.declared.ending.Ending.{Ending};
@@ -7,7 +7,7 @@ use crate::ending::Ending;
 use crate::exit::{Exit, exit_text};
 use tai_status::Label;
 
-/// Whether a text is the line of the process of this number that ended so at this time.
+/// Returns whether a text is the line of the process with this number that ended in this way at this time.
 fn says(text: &[u8], pid: u32, ending: Ending, label: &Label) -> bool
     ensures { IsTrue result ↔ Says text.now pid label.now ending }
 {
@@ -19,10 +19,10 @@ fn says(text: &[u8], pid: u32, ending: Ending, label: &Label) -> bool
     exit_text(&exit).as_slice() == text
 }
 
-/// How the process of this number that ended at this time ended, where the text is its line with the newline, as
-/// `exit_text` makes it; none where it is the line of another process, or of none.
+/// Reads how the process with this number ended, at this time. The text must be its line with the newline, as
+/// `exit_text` makes it. `None` is returned for the line of another process, and for any other text.
 ///
-/// Each way to end is written and compared: they are few, and so no line is read in two ways.
+/// Each way to end is written and compared: there are few of them, and in this way no line can be read in two ways.
 pub fn read_ending(text: &[u8], pid: u32, label: &Label) -> Option<Ending>
     ensures found { IfSome result (λ ending. Says text.now pid label.now ending) }
     ensures none { result ≡ None → (ending : Ending) → IsEnding ending → Says text.now pid label.now ending → ⊥ }

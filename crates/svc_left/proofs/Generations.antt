@@ -1,4 +1,4 @@
--- A climb through the generations of ancestors.
+-- Going up through the generations of ancestors.
 use Rattle.std.proofs.Common.{◌≡◌, ℕ, ◌-◌, ◌+◌, ◌<◌, ◌≤◌, ◌||◌, Bool, false, zero, suc, List, arith, refl, ap, ◌∙◌}
 use Rattle.std.specs.Option.{option_map_or}
 use Rattle.svc_left.specs.declared.leftover.Seen.{Seen}

@@ -1,4 +1,4 @@
--- A number in front of a space.
+-- A number before a space.
 use Rattle.std.proofs.Common.{◌≡◌, ℕ, ◌==◌, ◌<◌, ◌^◌, ◌+◌, Bool, true, false, not, List, [], ◌∷◌, ◌++◌, suc, length}
 use Rattle.std.proofs.Common.{take, drop, refl, sym, ap, ◌∙◌, arith, decimal, position, Some, Option, ◌-◌}
 use Rattle.std.proofs.Common.{append_assoc, length-append, length-drop}
@@ -27,14 +27,14 @@ behind : (word : List ℕ) (space : ℕ) (rest : List ℕ) → drop (suc (length
 behind [] space rest = refl
 behind (x ∷ xs) space rest = behind xs space rest
 
--- the number stands before the first space
+-- the number comes before the first space
 pub number_before : (number : ℕ) (rest text : List ℕ) (at : ℕ) → text ≡ decimal number ++ 32 ∷ rest
     → Some at ≡ position (λ byte. byte == 32) text → take at text ≡ decimal number
 number_before number rest text at is place =
     let same : at ≡ length (decimal number) = let e = place ∙ space_behind number rest text is in cc e in
     rw (same, is) (before (decimal number) (32 ∷ rest))
 
--- and the rest behind it
+-- the rest comes after it
 pub rest_behind : (number : ℕ) (rest text : List ℕ) (at : ℕ) → text ≡ decimal number ++ 32 ∷ rest
     → Some at ≡ position (λ byte. byte == 32) text → take (length text - (at + 1)) (drop (at + 1) text) ≡ rest
 rest_behind number rest text at is place =
@@ -44,7 +44,7 @@ rest_behind number rest text at is place =
     let next : at + 1 ≡ suc (length (decimal number)) = omega (arith, same) in
     all ∙ rw (next, is) (behind (decimal number) 32 rest)
 
--- words in front of spaces, and what is behind them
+-- words before spaces, and what comes after them
 pub two_in_front : (first second space rest : List ℕ)
     → first ++ space ++ second ++ space ++ rest ≡ first ++ (space ++ (second ++ (space ++ rest)))
 two_in_front first second space rest =

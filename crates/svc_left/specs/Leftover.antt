@@ -8,15 +8,15 @@ use Rattle.svc_left.specs.declared.leftover.Intent.{Intent}
 use Rattle.svc_left.specs.declared.leftover.Leftover.{Leftover}
 use Rattle.svc_left.specs.declared.leftover.Leftover.TheVariants.{Nobody, Process, Unsure}
 
--- the process of this number among these
+-- the process with this number among these
 abbrev pub process_at : (pid : ℕ) → List Seen → Option Seen
 process_at pid all = find (λ other. other.pid == pid) all
 
--- the parent that a process has among these
+-- the parent of a process, if it is among these
 abbrev pub parent_in : List Seen → Seen → Option Seen
 parent_in all one = process_at one.parent all
 
--- A process is new if it lives and began since the intent.
+-- A process is new if it is alive and began since the intent.
 abbrev pub is_new : Intent → Seen → Bool
 is_new intent one = not one.has_died && nat_le intent.tick one.tick
 
@@ -25,21 +25,22 @@ abbrev pub if_new : Intent → Option Seen → Option Seen
 if_new intent None = None
 if_new intent (Some parent) = if is_new intent parent then Some parent else None
 
--- the topmost of a process and its new ancestors, so many generations up at most
+-- the topmost of a process and its new ancestors, up to this many generations
 unfoldable pub topmost : (generations : ℕ) → Intent → List Seen → Seen → Seen
 topmost zero intent all one = one
 topmost (suc n) intent all one = option_map_or (topmost n intent all) (if_new intent (parent_in all one)) one
 
--- whether a process is known, or an ancestor of it, so many generations up at most
+-- whether a process or an ancestor of it is known, up to this many generations
 unfoldable pub is_known : (generations : ℕ) → List Seen → Seen → Bool
 is_known zero all one = false
 is_known (suc n) all one = one.is_known || option_map_or (is_known n all) (parent_in all one) false
 
--- A process is open if it is new and neither it nor an ancestor is known: it may be what is left over.
+-- A process is open if it is new, and neither it nor an ancestor is known. It may be what is left over.
 abbrev pub is_open : (generations : ℕ) → Intent → List Seen → Seen → Bool
 is_open generations intent all one = is_new intent one && not (is_known generations all one)
 
--- whether the process of this number is the topmost of an open one that is in the service's folder or has its output
+-- whether the process with this number is the topmost of an open process that is in the service's folder or has its
+-- output
 abbrev pub is_above_here : (generations : ℕ) → Intent → List Seen → (pid : ℕ) → Bool
 is_above_here generations intent all pid =
     list_any (λ other. other.is_here && (is_open generations intent all other
@@ -50,12 +51,12 @@ abbrev pub is_root : (generations : ℕ) → Intent → List Seen → Seen → B
 is_root generations intent all one =
     is_open generations intent all one && is_above_here generations intent all one.pid
 
--- whether a process began a session of its own, and is not younger than this svscan
+-- whether a process leads a session of its own, and is not younger than this svscan
 abbrev pub leads : Intent → Seen → Bool
 leads intent one = (one.session == one.pid) && nat_le one.tick intent.until
 
--- By its session a process may be the one of the start: it has the session of the svscan that intended the start, or,
--- if the service begins a session, it leads one.
+-- By its session a process may be the one of the start. Either it has the session of the svscan that intended the
+-- start; or the service begins a session, and the process leads one.
 abbrev pub may_be_started : Intent → Seen → Bool
 may_be_started intent one = (one.session == intent.session) || (intent.begins_session && leads intent one)
 
@@ -65,20 +66,21 @@ has_others_there generations intent all one =
     list_any (λ other. (other.neighbour == one.neighbour) && (is_open generations intent all other
     && not ((topmost generations intent all other).pid == one.pid))) all
 
--- A process is a neighbour's if it runs in the folder of a neighbour, and no other process there is not below it.
+-- A process belongs to a neighbour if it runs in the folder of a neighbour, and every other process there is below it.
 abbrev pub is_neighbours : (generations : ℕ) → Intent → List Seen → Seen → Bool
 is_neighbours generations intent all one =
     not (one.neighbour == 0) && not (has_others_there generations intent all one)
 
--- A stray is the topmost of open processes, may by its session be the one of the start, none of them is here, and it is
--- no neighbour's. A process of this svscan's own session that began after this svscan is no stray.
+-- A stray is the topmost of open processes. By its session it may be the one of the start, none of those processes is
+-- here, and it belongs to no neighbour. A process of this svscan's own session that began after this svscan is no
+-- stray.
 abbrev pub is_stray : (generations : ℕ) → Intent → List Seen → Seen → Bool
 is_stray generations intent all one =
     may_be_started intent one && (not one.is_late && (is_open generations intent all one
     && ((topmost generations intent all one).pid == one.pid && (not (is_above_here generations intent all one.pid)
     && not (is_neighbours generations intent all one)))))
 
--- whether another process than the one of this number is a root
+-- whether there is a root other than the process with this number
 abbrev pub has_other_root : (generations : ℕ) → Intent → List Seen → (pid : ℕ) → Bool
 has_other_root generations intent all pid =
     list_any (λ one. not (one.pid == pid) && is_root generations intent all one) all
@@ -90,17 +92,17 @@ first_root generations intent all = find (λ one. is_root generations intent all
 abbrev pub first_stray : (generations : ℕ) → Intent → List Seen → Option Seen
 first_stray generations intent all = find (λ one. is_stray generations intent all one) all
 
--- what is left over, where this is the first stray
+-- what is left over, if this is the first stray
 abbrev pub without_root : (stray : Option Seen) → Leftover
 without_root None = Nobody
 without_root (Some stray) = Unsure stray.pid
 
--- what is left over, where this is the first root: it, if it is sure
+-- what is left over, if this is the first root: this process, if it is sure
 abbrev pub with_root : (is_sure : Bool) (root : Seen) → Leftover
 with_root true root = Process root.pid root.tick
 with_root false root = Unsure root.pid
 
--- A root is sure if it may by its session be the process of the start, and there is no other root and no stray.
+-- A root is sure if by its session it may be the process of the start, and there is no other root and no stray.
 abbrev pub is_sure : (generations : ℕ) → Intent → List Seen → (root : Seen) → Bool
 is_sure generations intent all root =
     may_be_started intent root && (not (has_other_root generations intent all root.pid)
@@ -114,21 +116,20 @@ left_by generations intent all (Some root) = with_root (is_sure generations inte
 abbrev pub find_leftover : (generations : ℕ) → Intent → List Seen → Leftover
 find_leftover generations intent all = left_by generations intent all (first_root generations intent all)
 
--- the first process that lives, is here and is not known
+-- the first process that is alive, is here and is not known
 abbrev pub first_here : List Seen → Option Seen
 first_here all = find (λ one. one.is_here && (not one.has_died && not one.is_known)) all
 
--- What is left over of a start of which neither the time nor the session is known: perhaps the first process that is
--- here.
+-- What is left over of a start with an unknown time and session: perhaps the first process that is here.
 abbrev pub find_any_here : List Seen → Leftover
 find_any_here all = without_root (first_here all)
 
--- What is left over, if it is a process, has a number of at least 1.
+-- If what is left over is a process, it has a number of at least 1.
 abbrev pub HasNumber : Leftover → Type 0
 HasNumber (Process pid tick) = 0 < pid
 HasNumber other = ⊤
 
--- the same, but that a process without a number is nobody
+-- the same, except that a process without a number counts as nobody
 abbrev pub numbered : Leftover → Leftover
 numbered (Process pid tick) = if pid == 0 then Nobody else Process pid tick
 numbered other = other

@@ -18,25 +18,25 @@ use Rattle.svc_left.specs.declared.opening.Left.{Left}
 use Rattle.svc_left.specs.declared.opening.Opening.{Opening}
 use Rattle.svc_left.specs.declared.opening.Opening.TheVariants.{ByRow, Wanted, AsLeft}
 
--- the history with which a service begins, whose row has the `down` file or not
+-- the history with which a service begins; `down` says whether its row has the `down` file
 abbrev pub beginning : Opening → (down : Bool) → (label : Tai64n) → History
 beginning ByRow down label = Begin down label
 beginning (Wanted wanted_down) down label = Begin wanted_down label
 beginning (AsLeft state) down label = Opened state
 
--- What was left of a service is not gone.
+-- The machine that was left is not gone.
 abbrev pub BeginsAlive : Opening → Type 0
 BeginsAlive (AsLeft state) = is_gone state.phase ≡ false
 BeginsAlive other = ⊤
 
 -- Machines
 
--- until when a machine waits that stands as a record says: a record does not say until when a service rests
+-- until when a machine in a recorded state waits; a record does not say until when a service rests
 abbrev pub until_of : Phase → Status → Option Tai64n
 until_of phase.Settling status = Some (plus_second status.label)
 until_of other status = None
 
--- the machine that a full record says
+-- the machine in a full record
 abbrev pub as_recorded : FullStatus → State
 as_recorded full = record {
   phase = full.phase;
@@ -58,14 +58,14 @@ abbrev pub exiting_in : Loaded → Bool
 exiting_in (Old status) = false
 exiting_in (New full) = full.exiting
 
--- the machine that a record says which names a process
+-- the machine in a record that names a process
 abbrev pub running : Loaded → State
 running (Old status) = up_since status.label status.pid status.paused status.want false
 running (New full) = as_recorded full
 
--- The machine of a process that lives on: the one that the record says, where it names that process. A record that
--- names another, or none, was to be replaced after the start: the service is up since it was found, and what is wanted
--- stands. Without a record it is wanted up.
+-- The machine of a process that is still alive: the one in the record, if the record names that process. A record that
+-- names another process, or none, would have been replaced after the start. The service is then up since it was found,
+-- and what is wanted stays. Without a record the service is wanted up.
 abbrev pub adopted : Option Loaded → (pid : ℕ) → (found : Tai64n) → State
 adopted None pid found = up_since found pid false want.Up false
 adopted (Some loaded) pid found =
@@ -78,16 +78,16 @@ abbrev pub is_down : Phase → Bool
 is_down phase.Down = true
 is_down other = false
 
--- How a service begins whose process is gone: one that was to end by its row; one that was down goes on so; and else it
--- is started again where it is wanted up alone.
+-- How a service without its process begins. If it was to exit, it begins by its row. If it was down, it stays down.
+-- Otherwise it is started only if it is wanted up.
 abbrev pub without_process : FullStatus → Opening
 without_process full =
     if full.exiting then ByRow
     else if is_down full.phase then AsLeft (as_recorded full)
     else Wanted (if is_up full.status.want then false else true)
 
--- How a service begins. A record counts in the boot alone in which a process was recorded. While that process lives it
--- is adopted.
+-- How a service begins. A record counts only if a process was recorded in this boot. If that process is alive, it is
+-- adopted.
 abbrev pub opening_of : Option Loaded → Found → (found : Tai64n) → Opening
 opening_of record_left (Lives process) found = AsLeft (adopted record_left process.pid found)
 opening_of (Some (New full)) Gone found = without_process full
@@ -100,7 +100,7 @@ is_want want.Down want.Down = true
 is_want want.Once want.Once = true
 is_want one other = false
 
--- A record is stale if the place of the service, which is written first, wants something else, or there is no record.
+-- A record is stale if the service's place, which is written first, wants something else, or if there is no record.
 abbrev pub is_stale : Option Loaded → Want → Bool
 is_stale None wanted = true
 is_stale (Some loaded) wanted = not (is_want (status_in loaded).want wanted)
@@ -109,8 +109,8 @@ abbrev pub was_exiting : Option Loaded → Bool
 was_exiting None = false
 was_exiting (Some loaded) = exiting_in loaded
 
--- How a service begins whose record is stale, as this is wanted: a process that lives is up since it was found. Without
--- a process it begins up or down.
+-- How a service with a stale record begins, if this is wanted. A process that is alive is up since it was found.
+-- Without a process the service begins up or down.
 abbrev pub by_want_of : Option Loaded → Found → (found : Tai64n) → Want → Opening
 by_want_of record_left (Lives process) found wanted =
     AsLeft (up_since found process.pid false wanted (was_exiting record_left))

@@ -1,4 +1,4 @@
--- The place of a service: which process was started last, or that one is about to be started, and what is wanted.
+-- The place of a service: the process that was started last, or that one is about to be started, and what is wanted.
 use Rattle.std.specs.Prelude.{◌≡◌, ◌<◌, ◌+◌, ◌^◌, ◌==◌, ◌&&◌, ℕ, Bool, true, false, not, if◌then◌else◌, List, ◌++◌, ◌∷◌, codes}
 use Rattle.std.specs.Prelude.{decimal, length, position, take, Option, Some, None}
 use Rattle.std.specs.Borrow.{Bor}
@@ -7,13 +7,13 @@ use Rattle.tai_status.specs.declared.record.Want.TheVariants as want
 use Rattle.svc_left.specs.declared.place.Place.{Place}
 use Rattle.svc_left.specs.declared.process.ProcessId.{ProcessId}
 
--- the number that a place has for what is wanted
+-- the number of a wanted state in a place
 abbrev pub want_number : Want → ℕ
 want_number want.Down = 0
 want_number want.Up = 1
 want_number want.Once = 2
 
--- the line of a place: PID TICK SESSION INIT WANT BOOT, parted by spaces
+-- the line of a place: PID TICK SESSION INIT WANT BOOT, separated by spaces
 abbrev pub place_end : Place → List ℕ
 place_end place = decimal (want_number place.want) ++ codes " " ++ place.boot ++ codes "\n"
 
@@ -23,7 +23,7 @@ place_rest place = decimal place.session ++ codes " " ++ decimal place.init ++ c
 abbrev pub place_line : Place → List ℕ
 place_line place = decimal place.pid ++ codes " " ++ decimal place.tick ++ codes " " ++ place_rest place
 
--- the numbers in front of the first two spaces, and what is behind these
+-- the numbers before the first two spaces, and what comes after them
 abbrev pub AreTwo : (first second : ℕ) (rest : List ℕ) → ℕ × ℕ × Bor (List ℕ) → Type 0
 AreTwo first second rest parts = (parts.0 ≡ first) × (parts.1 ≡ second) × (parts.2.now ≡ rest)
 
@@ -35,28 +35,28 @@ pub record IsPlace (place : Place) : Type 0 where
   pub init : place.init < 2 ^ 64
   pub boot : length place.boot ≡ 36
 
--- the line up to this place of its newline, or all if there is none
+-- the line up to its newline at this place, or all if there is no newline
 abbrev pub line_to : Option ℕ → List ℕ → List ℕ
 line_to None text = text
 line_to (Some at) text = take (at + 1) text
 
--- The first line of a text, with its newline: behind it is what is left of a longer line before.
+-- The first line of a text, with its newline. What is left of an older, longer line may come after it.
 abbrev pub first_line : List ℕ → List ℕ
 first_line text = line_to (position (λ byte. byte == 10) text) text
 
--- the place of a service before a start that an svscan of this session intended at this tick
+-- the place of a service before a start that an svscan with this session intended at this tick
 abbrev pub intending : Place → (tick session : ℕ) → Place
 intending place tick session = record place { pid = 0; tick = tick; session = session }
 
--- the place of a service after a start that made this process, which began at this tick
+-- the place of a service after a start made this process, which began at this tick
 abbrev pub occupied : Place → (pid tick : ℕ) → Place
 occupied place pid tick = record place { pid = pid; tick = tick }
 
--- the place of a service after a start that made no process
+-- the place of a service after a start made no process
 abbrev pub vacated : Place → Place
 vacated place = record place { pid = 0; tick = 0 }
 
--- the place of a service of which this is wanted
+-- the place of a service with this wanted
 abbrev pub wanting : Place → Want → Place
 wanting place want = record place { want = want }
 
@@ -64,16 +64,16 @@ wanting place want = record place { want = want }
 abbrev pub is_intent : Place → Bool
 is_intent place = (place.pid == 0) && not (place.tick == 0)
 
--- the process that a place names
+-- the process in a place
 abbrev pub process_in : Place → Option ProcessId
 process_in place =
     if place.pid == 0 then None else Some (record { pid = place.pid; tick = place.tick; boot = place.boot })
 
--- Both are of one run of the system: the same boot, and the same first process in it.
+-- Both are from one run of the system: they have the same boot, and the same first process in it.
 pub record AreOfOneRun (place here : Place) : Type 0 where
   pub boot : place.boot ≡ here.boot
   pub init : place.init ≡ here.init
 
--- whether neither the time nor the session of the intended start is known
+-- whether the time and the session of the intended start are both unknown
 abbrev pub is_unknown : Place → Bool
 is_unknown place = (place.pid == 0) && ((place.tick == 1) && (place.session == 0))

@@ -1,4 +1,4 @@
-//! What is left over of a start whose process was not recorded.
+//! What is left over of a start with a process that was not recorded.
 ghost use Rattle.std.specs.Prelude.{◌≡◌, option_copied};
 ghost use Rattle.svc_left.specs.Leftover.{find_any_here, find_leftover, first_here, first_root, first_stray, has_other_root};
 ghost use Rattle.svc_left.specs.Leftover.{has_others_there, if_new, is_above_here};
@@ -8,13 +8,13 @@ ghost use Rattle.svc_left.specs.Leftover.{parent_in, process_at};
 ghost use Rattle.svc_left.specs.Leftover.{topmost, without_root};
 ghost use Rattle.svc_left.specs.declared.leftover.TheConstants.{GENERATIONS};
 
-/// How many generations of ancestors are looked at.
+/// How many generations of ancestors are examined.
 const GENERATIONS: usize = 256;
 
-/// A process of the system, as it was seen in one look at all of them.
+/// A process of the system, as seen in one look at all processes.
 #[derive(Clone, Copy, Debug, PartialEq, Eq)]
 pub struct Seen {
-    /// Its number.
+    /// The number of the process.
     pub pid: u32,
     /// The number of its parent.
     pub parent: u64,
@@ -22,23 +22,23 @@ pub struct Seen {
     pub tick: u64,
     /// Its session.
     pub session: u64,
-    /// Whether it died, and its parent has not waited for it.
+    /// Whether it died, and its parent has not waited for it yet.
     pub has_died: bool,
-    /// Whether it runs in the folder of the service, or its standard output is that of the service.
+    /// Whether it runs in the folder of the service, or has the service's standard output as its own.
     pub is_here: bool,
-    /// Whether it is known: this svscan, or the process of another service.
+    /// Whether it is known: it is this svscan, or the process of another service.
     pub is_known: bool,
-    /// Whether it is of this svscan's own session and began after this svscan.
+    /// Whether it has this svscan's own session and began after this svscan.
     pub is_late: bool,
-    /// The neighbour in whose folder it runs: a service of the same svscan of which a start is not known either. By its
-    /// number from 1, or 0 if it runs in the folder of none.
+    /// The neighbour in whose folder it runs, by its number from 1, or 0 if there is none. A neighbour is another
+    /// service of the same svscan with an unknown start.
     pub neighbour: u64,
 }
 
 /// A start that an earlier svscan intended.
 #[derive(Clone, Copy, Debug, PartialEq, Eq)]
 pub struct Intent {
-    /// When, by the tick of the kernel's clock. No process of the start began before.
+    /// When the start was intended, by the tick of the kernel's clock. No process of the start began before.
     pub tick: u64,
     /// The session of that svscan.
     pub session: u64,
@@ -51,11 +51,11 @@ pub struct Intent {
 /// What is left over of a start.
 #[derive(Clone, Copy, Debug, PartialEq, Eq)]
 pub enum Leftover {
-    /// No process.
+    /// No process is left.
     Nobody,
-    /// The process of this number, which began at this tick.
+    /// The process with this number, which began at this tick.
     Process(u32, u64),
-    /// Perhaps the process of this number.
+    /// Perhaps the process with this number.
     Unsure(u32),
 }
 
@@ -63,7 +63,7 @@ impl Leftover {
     ghost use Rattle.std.specs.Prelude.{◌≡◌};
     ghost use Rattle.svc_left.specs.Leftover.{HasNumber, numbered};
 
-    /// The same, but that a process without a number is nobody.
+    /// Returns the same, except that a process without a number counts as nobody.
     pub fn numbered(self) -> Leftover
         ensures same { result ≡ numbered self }
         ensures number { HasNumber result }
@@ -75,14 +75,14 @@ impl Leftover {
     }
 }
 
-/// The process of this number.
+/// Returns the process with this number.
 fn process_at(all: &[Seen], pid: u64) -> Option<&Seen>
     ensures { option_copied result ≡ process_at pid all.now }
 {
     all.iter().find(|other| u64::from(other.pid) == pid)
 }
 
-/// The parent of a process.
+/// Returns the parent of a process.
 fn parent_of(all: &[Seen], one: &Seen) -> Option<Seen>
     ensures { result ≡ parent_in all.now one.now }
 {
@@ -92,14 +92,14 @@ fn parent_of(all: &[Seen], one: &Seen) -> Option<Seen>
     }
 }
 
-/// Whether a process lives, and began since the intent.
+/// Returns whether a process is alive, and began since the intent.
 fn is_new(intent: &Intent, one: &Seen) -> bool
     ensures { result ≡ is_new intent.now one.now }
 {
     !one.has_died && intent.tick <= one.tick
 }
 
-/// The parent of a process, if it is new.
+/// Returns the parent of a process, if it is new.
 fn new_parent(intent: &Intent, all: &[Seen], one: &Seen) -> Option<Seen>
     ensures { result ≡ if_new intent.now (parent_in all.now one.now) }
 {
@@ -109,7 +109,7 @@ fn new_parent(intent: &Intent, all: &[Seen], one: &Seen) -> Option<Seen>
     }
 }
 
-/// The topmost of a process and its new ancestors.
+/// Returns the topmost of a process and its new ancestors.
 #[tactic(auto, using(crate::proofs::Generations::topmost_step, crate::proofs::Generations::topmost_end))]
 fn topmost(intent: &Intent, all: &[Seen], one: &Seen) -> Seen
     ensures { result ≡ topmost GENERATIONS intent.now all.now one.now }
@@ -124,7 +124,7 @@ fn topmost(intent: &Intent, all: &[Seen], one: &Seen) -> Seen
     top
 }
 
-/// Whether a process or an ancestor of it is known.
+/// Returns whether a process or an ancestor of it is known.
 #[tactic(auto, using(crate::proofs::Generations::known_step, crate::proofs::Generations::known_end))]
 fn is_known(all: &[Seen], one: &Seen) -> bool
     ensures { result ≡ is_known GENERATIONS all.now one.now }
@@ -142,14 +142,14 @@ fn is_known(all: &[Seen], one: &Seen) -> bool
     false
 }
 
-/// Whether a process may be what is left over.
+/// Returns whether a process may be what is left over.
 fn is_open(intent: &Intent, all: &[Seen], one: &Seen) -> bool
     ensures { result ≡ is_open GENERATIONS intent.now all.now one.now }
 {
     is_new(intent, one) && !is_known(all, one)
 }
 
-/// Whether the process of this number is the topmost of an open one that is here.
+/// Returns whether the process with this number is the topmost of an open process that is here.
 fn is_above_here(intent: &Intent, all: &[Seen], pid: u32) -> bool
     ensures { result ≡ is_above_here GENERATIONS intent.now all.now pid }
 {
@@ -158,28 +158,28 @@ fn is_above_here(intent: &Intent, all: &[Seen], pid: u32) -> bool
     })
 }
 
-/// Whether a process is the topmost open one above one that is here.
+/// Returns whether a process is the topmost open process above one that is here.
 fn is_root(intent: &Intent, all: &[Seen], one: &Seen) -> bool
     ensures { result ≡ is_root GENERATIONS intent.now all.now one.now }
 {
     is_open(intent, all, one) && is_above_here(intent, all, one.pid)
 }
 
-/// Whether a process began a session of its own, and is not younger than this svscan.
+/// Returns whether a process leads a session of its own, and is not younger than this svscan.
 fn leads(intent: &Intent, one: &Seen) -> bool
     ensures { result ≡ leads intent.now one.now }
 {
     one.session == u64::from(one.pid) && one.tick <= intent.until
 }
 
-/// Whether a process may by its session be the one of the start.
+/// Returns whether a process may be the one of the start, by its session.
 fn may_be_started(intent: &Intent, one: &Seen) -> bool
     ensures { result ≡ may_be_started intent.now one.now }
 {
     one.session == intent.session || (intent.begins_session && leads(intent, one))
 }
 
-/// Whether another process runs in the folder of the same neighbour, and is not below this one.
+/// Returns whether another process runs in the folder of the same neighbour, and is not below this one.
 fn has_others_there(intent: &Intent, all: &[Seen], one: &Seen) -> bool
     ensures { result ≡ has_others_there GENERATIONS intent.now all.now one.now }
 {
@@ -190,15 +190,15 @@ fn has_others_there(intent: &Intent, all: &[Seen], one: &Seen) -> bool
     })
 }
 
-/// Whether a process is the one of a neighbour's start: of all that runs in that folder it is the topmost.
+/// Returns whether a process is that of a neighbour's start: it is the topmost of all processes in that folder.
 fn is_neighbours(intent: &Intent, all: &[Seen], one: &Seen) -> bool
     ensures { result ≡ is_neighbours GENERATIONS intent.now all.now one.now }
 {
     one.neighbour != 0 && !has_others_there(intent, all, one)
 }
 
-/// Whether a process is the topmost of open ones, may be the one of the start, and none of them is here or is the one
-/// of a neighbour's start.
+/// Returns whether a process is the topmost of open ones and may be the one of the start, and none of them is here or
+/// is that of a neighbour's start.
 fn is_stray(intent: &Intent, all: &[Seen], one: &Seen) -> bool
     ensures { result ≡ is_stray GENERATIONS intent.now all.now one.now }
 {
@@ -210,21 +210,21 @@ fn is_stray(intent: &Intent, all: &[Seen], one: &Seen) -> bool
         && !is_neighbours(intent, all, one)
 }
 
-/// The first root.
+/// Returns the first root.
 fn first_root<'a>(intent: &Intent, all: &'a [Seen]) -> Option<&'a Seen>
     ensures { option_copied result ≡ first_root GENERATIONS intent.now all.now }
 {
     all.iter().find(|one| is_root(intent, all, one))
 }
 
-/// The first stray.
+/// Returns the first stray.
 fn first_stray<'a>(intent: &Intent, all: &'a [Seen]) -> Option<&'a Seen>
     ensures { option_copied result ≡ first_stray GENERATIONS intent.now all.now }
 {
     all.iter().find(|one| is_stray(intent, all, one))
 }
 
-/// Whether there is another root than the process of this number.
+/// Returns whether there is a root other than the process with this number.
 fn has_other_root(intent: &Intent, all: &[Seen], pid: u32) -> bool
     ensures { result ≡ has_other_root GENERATIONS intent.now all.now pid }
 {
@@ -232,7 +232,7 @@ fn has_other_root(intent: &Intent, all: &[Seen], pid: u32) -> bool
         .any(|one| one.pid != pid && is_root(intent, all, one))
 }
 
-/// Whether a root is sure to be what is left over.
+/// Returns whether a root is sure to be what is left over.
 fn is_sure(intent: &Intent, all: &[Seen], root: &Seen) -> bool
     ensures { result ≡ is_sure GENERATIONS intent.now all.now root.now }
 {
@@ -241,7 +241,7 @@ fn is_sure(intent: &Intent, all: &[Seen], root: &Seen) -> bool
         && first_stray(intent, all).is_none()
 }
 
-/// What is left over where there is no root.
+/// Returns what is left over if there is no root.
 fn without_root(stray: Option<&Seen>) -> Leftover
     ensures { result ≡ without_root (option_copied stray.entry) }
 {
@@ -251,12 +251,13 @@ fn without_root(stray: Option<&Seen>) -> Leftover
     }
 }
 
-/// What is left over of a start, by one look at all processes of the system.
+/// Returns what is left over of a start, by one look at all processes of the system.
 ///
 /// The process of a start is the topmost one that began since the intent, above those that run in the service's folder
-/// or have its output. It is sure only if it is the only one, it has the session of the svscan that intended the start
-/// (or leads one, if the service begins a session), and no other process with such a session is unknown. A process that
-/// alone runs in the folder of a neighbour, whose start is not known either, is that neighbour's.
+/// or have its output. It is sure only if it is the only one, and no other process with a session of the start is
+/// unknown. It must also have such a session: that of the svscan that intended the start, or its own, if the service
+/// begins a session and the process leads one. A process that runs alone in the folder of a neighbour with an unknown
+/// start belongs to that neighbour.
 pub fn find_leftover(intent: &Intent, all: &[Seen]) -> Leftover
     ensures { result ≡ find_leftover GENERATIONS intent.now all.now }
 {
@@ -267,15 +268,15 @@ pub fn find_leftover(intent: &Intent, all: &[Seen]) -> Leftover
     }
 }
 
-/// What is left over of a start of which only the service is known: it is not sure whether the first process is that
-/// runs in the service's folder or has its output.
+/// Returns what is left over of a start, if only the service is known. It is not sure whether that is the first process
+/// that runs in the service's folder or has its output.
 pub fn find_any_here(all: &[Seen]) -> Leftover
     ensures { result ≡ find_any_here all.now }
 {
     without_root(first_here(all))
 }
 
-/// The first process that lives, is here and is not known.
+/// Returns the first process that is alive, is here and is not known.
 fn first_here(all: &[Seen]) -> Option<&Seen>
     ensures { option_copied result ≡ first_here all.now }
 {

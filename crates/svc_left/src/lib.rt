@@ -1,8 +1,9 @@
-//! What an earlier svscan left of a service, and how the service begins then.
+//! What an earlier svscan left of a service, and how the service then begins.
 //!
-//! At each start the process is recorded in a line (`process_line`). The next svscan reads it (`read_process`), finds
-//! what became of it (`find`), and with the status record says how the service begins (`Left::opening`): by its row, as
-//! it is wanted, or as it was left. A process that lives on is adopted, with the machine that the record says.
+//! At each start the process is recorded in a line (`process_line`). The next svscan reads it (`read_process`), and
+//! finds what became of the process (`find`). With the status record it decides how the service begins
+//! (`Left::opening`): by its row, as it is wanted, or as it was left. A process that is still alive is adopted, with
+//! the machine in the record.
 #![tactic(auto)]
 
 mod leftover;

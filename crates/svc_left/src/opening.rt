@@ -16,9 +16,9 @@ use tai_status::{Full, Label, Loaded, Phase, View, Want, encode_full};
 /// How a service begins.
 #[derive(Clone, Copy, Debug, PartialEq, Eq)]
 pub enum Opening {
-    /// With or without its `down` file, as its row says.
+    /// As its row says: with or without its `down` file.
     ByRow,
-    /// Whatever its row says, as with the `down` file, or as without.
+    /// As with the `down` file, or as without it, whatever its row says.
     Wanted { down: bool },
     /// As an earlier svscan left it.
     AsLeft(Machine),
@@ -31,7 +31,7 @@ impl Opening {
     ghost use Rattle.svc_left.specs.Opening.{BeginsAlive, beginning};
     ghost use Rattle.sup_core.specs.State.{is_gone};
 
-    /// The machine with which a service begins, whose row has the `down` file or not.
+    /// Returns the machine with which a service begins. `down` says whether its row has the `down` file.
     pub fn machine(&self, down: bool, label: Label) -> Machine
         ensures machine { result ≡ state_of (beginning self.now down label) }
         ensures alive { BeginsAlive self.now → is_gone result.phase ≡ false }
@@ -43,7 +43,8 @@ impl Opening {
         }
     }
 
-    /// What is asked as it begins: its record, and a start where it is one that begins up. What was left is no start.
+    /// Returns what the beginning asks for: its record, and a start if it begins up by its row or as wanted. A machine
+    /// that was left asks for no start.
     pub fn asks(&self, down: bool, label: Label) -> Asks
         ensures { result ≡ asks_of_begin (beginning self.now down label) }
     {
@@ -59,7 +60,7 @@ impl Opening {
     }
 }
 
-/// The machine that a full record says, of a service that has a process or is down.
+/// Returns the machine in a full record, for a service that has a process or is down.
 fn as_recorded(full: &Full) -> Machine
     requires { (0 < full.now.status.pid) ⊎ (full.now.phase ≡ Phase.Down) }
     ensures recorded { result ≡ as_recorded full.now }
@@ -72,7 +73,7 @@ fn as_recorded(full: &Full) -> Machine
     Machine::of_parts(full.phase, full.view, full.exiting, until).unwrap()
 }
 
-/// The machine of a service that is up as its record says, or since it was found.
+/// Returns the machine of a service that is up since its record's label, or since it was found.
 fn up(view: View, exiting: bool) -> Machine
     requires { 0 < view.pid }
     ensures up { result ≡ up_since view.label view.pid view.paused view.want exiting }
@@ -80,7 +81,7 @@ fn up(view: View, exiting: bool) -> Machine
     Machine::of_parts(Phase::Up, view, exiting, None).unwrap()
 }
 
-/// The machine that a record says which names a process.
+/// Returns the machine in a record that names a process.
 fn running(loaded: &Loaded) -> Machine
     requires { 0 < (status_in loaded.now).pid }
     ensures running { result ≡ running loaded.now }
@@ -92,7 +93,7 @@ fn running(loaded: &Loaded) -> Machine
     }
 }
 
-/// Whether supervise was to end, as far as a record says.
+/// Returns whether supervise was to exit, as far as a record says.
 fn exiting_in(loaded: &Loaded) -> bool
     ensures { result ≡ exiting_in loaded.now }
 {
@@ -102,7 +103,7 @@ fn exiting_in(loaded: &Loaded) -> bool
     }
 }
 
-/// The machine of the process of this number, which lives on and was found at this time.
+/// Returns the machine of the process with this number, which is still alive and was found at this time.
 fn adopted(recorded: &Option<Loaded>, pid: u32, found: Label) -> Machine
     requires { 0 < pid }
     ensures adopted { result ≡ adopted recorded.now pid found }
@@ -122,7 +123,7 @@ fn adopted(recorded: &Option<Loaded>, pid: u32, found: Label) -> Machine
     up(view, exiting)
 }
 
-/// How a service begins whose process is gone.
+/// Returns how a service without its process begins.
 fn without_process(full: &Full) -> Opening
     ensures opening { result ≡ without_process full.now }
     ensures alive { BeginsAlive result }
@@ -138,8 +139,8 @@ fn without_process(full: &Full) -> Opening
     }
 }
 
-/// Whether a status record is stale: the place of the service says that something else is wanted. The place is written
-/// first.
+/// Returns whether a status record is stale: the place of the service, which is written first, wants something else, or
+/// there is no record.
 fn is_stale(record: &Option<Loaded>, want: Want) -> bool
     ensures { result ≡ is_stale record.now want }
 {
@@ -149,7 +150,7 @@ fn is_stale(record: &Option<Loaded>, want: Want) -> bool
     }
 }
 
-/// Whether both are the same.
+/// Returns whether both are the same.
 fn is_want(one: Want, other: Want) -> bool
     ensures { result ≡ is_want one other }
 {
@@ -159,7 +160,7 @@ fn is_want(one: Want, other: Want) -> bool
     }
 }
 
-/// Whether supervise was to end, as far as a record says that was left.
+/// Returns whether supervise was to exit, as far as the record that was left says.
 fn was_exiting(record: &Option<Loaded>) -> bool
     ensures { result ≡ was_exiting record.now }
 {
@@ -169,7 +170,7 @@ fn was_exiting(record: &Option<Loaded>) -> bool
     }
 }
 
-/// How a service begins whose record is stale, and of which this is wanted.
+/// Returns how a service with a stale record begins, if this is wanted.
 fn by_want(left: &Left, want: Want) -> Opening
     requires { IsLiving left.now.process }
     ensures opening { result ≡ by_want left.now want }
@@ -192,7 +193,7 @@ fn by_want(left: &Left, want: Want) -> Opening
     }
 }
 
-/// How a service begins whose record is not stale.
+/// Returns how a service begins if its record is not stale.
 fn by_record(left: &Left) -> Opening
     requires { IsLiving left.now.process }
     ensures opening { result ≡ opening_of left.now.record left.now.process left.now.label }
@@ -210,9 +211,9 @@ fn by_record(left: &Left) -> Opening
 /// What an earlier svscan left of a service.
 #[derive(Clone, Copy, Debug, PartialEq, Eq)]
 pub struct Left {
-    /// Its status record, where that could be read.
+    /// Its status record, if that could be read.
     pub record: Option<Loaded>,
-    /// What its place says is wanted, where that could be read and is of this boot.
+    /// What its place wants, if that could be read and is from this boot.
     pub want: Option<Want>,
     /// What became of its process.
     pub process: Found,
@@ -225,22 +226,23 @@ impl Left {
     ghost use Rattle.svc_left.specs.Process.{IsLiving};
     ghost use Rattle.svc_left.specs.Opening.{BeginsAlive, opening_left};
 
-    /// How the service begins. A record counts in the boot alone in which a process was recorded. What the place says is
-    /// wanted counts more than what the record says, since the place is written first, and also if the record can't be.
+    /// Returns how the service begins. A record counts only if a process was recorded in this boot. What the place
+    /// wants counts more than what the record wants, since the place is written first, even if the record can't be
+    /// written.
     ///
     /// | process | record | it begins |
     /// |---|---|---|
-    /// | lives | names it | as the record says |
-    /// | lives | names another, or none | up since it was found, wanted as the record says |
-    /// | lives | there is none | up since it was found, wanted up |
-    /// | lives | the place wants something else | up since it was found, wanted as the place says |
-    /// | gone | the place wants something else | up or down, as the place says |
-    /// | gone | exiting or gone | by its row |
-    /// | gone | down | as the record says |
-    /// | gone | any other, wanted up | up |
-    /// | gone | any other, wanted down or once | down |
-    /// | gone | of 18 bytes, or none | by its row |
-    /// | none in this boot | any | by its row |
+    /// | lives | names it | as the record says. |
+    /// | lives | names another, or none | up since it was found, wanted as the record says. |
+    /// | lives | there is none | up since it was found, wanted up. |
+    /// | lives | the place wants something else | up since it was found, wanted as the place says. |
+    /// | gone | the place wants something else | up or down, as the place says. |
+    /// | gone | exiting or gone | by its row. |
+    /// | gone | down | as the record says. |
+    /// | gone | any other, wanted up | up. |
+    /// | gone | any other, wanted down or once | down. |
+    /// | gone | of 18 bytes, or none | by its row. |
+    /// | none in this boot | any | by its row. |
     ///
     /// A service never begins as one that is gone.
     pub fn opening(&self) -> Opening

@@ -1,4 +1,4 @@
-//! The place of a service: which process was started last, or that one is about to be started, and what is wanted.
+//! The place of a service: the process that was started last, or that one is about to be started, and what is wanted.
 ghost use Rattle.std.specs.Prelude.{◌≡◌, ◌<◌, ◌^◌, ◌++◌, ◌∷◌, ℕ, List, IsSomeAnd, codes, decimal, length, position, ◌==◌};
 ghost use Rattle.std.specs.Prelude.{Some, IfSome};
 ghost use Rattle.svc_left.specs.Place.{AreTwo, IsPlace, first_line, place_line, want_number};
@@ -9,21 +9,21 @@ use crate::process::{BootId, ProcessId, push_number, read_boot, split_number};
 use arrayvec::ArrayVec;
 use tai_status::Want;
 
-/// How long a file is that holds a place, whatever its line.
+/// The length of a file with a place, for any line.
 pub const PLACE_BYTES: usize = 160;
 
 /// A line of at most 160 bytes.
 pub type PlaceLine = ArrayVec<u8, PLACE_BYTES>;
 
-/// What a service's file `supervise/place` says. It is there before a process of the service begins.
+/// The content of a service's file `supervise/place`. It is written before a process of the service begins.
 #[derive(Clone, Copy, Debug, PartialEq, Eq)]
 pub struct Place {
-    /// The number of the process that was started last, or 0: its number is not known, or there is none.
+    /// The number of the process that was started last. It is 0 if the number is not known, or if there is no process.
     pub pid: u32,
     /// The tick of the kernel's clock at which that process began. Without a process: the tick at which a start was
     /// intended, or 0 if none was.
     pub tick: u64,
-    /// The session of the svscan that started it.
+    /// The session of the svscan that started the process.
     pub session: u64,
     /// The tick at which the first process of the system began.
     pub init: u64,
@@ -33,7 +33,7 @@ pub struct Place {
     pub boot: BootId,
 }
 
-/// The number for what is wanted.
+/// Returns the number of a wanted state.
 fn want_number(want: Want) -> u64
     ensures { result ≡ want_number want }
 {
@@ -44,7 +44,7 @@ fn want_number(want: Want) -> u64
     }
 }
 
-/// What is wanted, by its number.
+/// Returns the wanted state with this number.
 fn want_of(number: u64) -> Option<Want>
     ensures { (want : Want) → number ≡ want_number want → result ≡ Some want }
 {
@@ -56,7 +56,7 @@ fn want_of(number: u64) -> Option<Want>
     }
 }
 
-/// The line of a place, with its newline: `PID TICK SESSION INIT WANT BOOT`.
+/// Returns the line of a place, with its newline: `PID TICK SESSION INIT WANT BOOT`.
 pub fn place_line(place: &Place) -> PlaceLine
     ensures { result.items ≡ place_line place.now }
 {
@@ -71,7 +71,7 @@ pub fn place_line(place: &Place) -> PlaceLine
     line
 }
 
-/// The place of the first newline.
+/// Returns the place of the first newline.
 fn newline_at(text: &[u8]) -> Option<usize>
     ensures place { result ≡ position (λ byte. byte == 10) text.now }
     ensures within { IfSome result (λ place. place < length text.now) }
@@ -79,7 +79,7 @@ fn newline_at(text: &[u8]) -> Option<usize>
     text.iter().position(|byte| *byte == b'\n')
 }
 
-/// The first line of a text, with its newline.
+/// Returns the first line of a text, with its newline.
 pub fn first_line(text: &[u8]) -> &[u8]
     ensures { result.now ≡ first_line text.now }
 {
@@ -89,7 +89,7 @@ pub fn first_line(text: &[u8]) -> &[u8]
     }
 }
 
-/// The two numbers in front of the second space, and what is behind that.
+/// Reads the two numbers before the second space. Returns them, and what comes after that space.
 fn split_two(text: &[u8]) -> Option<(u64, u64, &[u8])>
     ensures only { (first second : ℕ) (rest : List ℕ) → first < 2 ^ 64 → second < 2 ^ 64
         → text.now ≡ decimal first ++ 32 ∷ (decimal second ++ 32 ∷ rest)
@@ -100,7 +100,7 @@ fn split_two(text: &[u8]) -> Option<(u64, u64, &[u8])>
     Some((first, second, rest))
 }
 
-/// What is wanted, and the boot, that end a text.
+/// Reads the wanted state and the boot at the end of a text.
 fn read_end(text: &[u8]) -> Option<(Want, BootId)>
     ensures only { (want : Want) (boot : List ℕ) → length boot ≡ 36
         → text.now ≡ decimal (want_number want) ++ 32 ∷ (boot ++ codes "\n") → result ≡ Some (want, boot) }
@@ -110,7 +110,7 @@ fn read_end(text: &[u8]) -> Option<(Want, BootId)>
     Some((want, read_boot(rest)?))
 }
 
-/// The place that a text can be the line of.
+/// Returns the only place that can have this line.
 fn place_meant(text: &[u8]) -> Option<Place>
     ensures only { (place : Place) → IsPlace place → text.now ≡ place_line place → result ≡ Some place }
 {
@@ -128,7 +128,7 @@ fn place_meant(text: &[u8]) -> Option<Place>
     })
 }
 
-/// The place of which this is the line, with its newline, as `place_line` makes it.
+/// Reads the line of a place, with its newline, as `place_line` makes it.
 pub fn read_place(text: &[u8]) -> Option<Place>
     ensures found { IfSome result (λ place. text.now ≡ place_line place) }
     ensures only { (place : Place) → IsPlace place → text.now ≡ place_line place → result ≡ Some place }
@@ -146,7 +146,7 @@ impl Place {
     ghost use Rattle.svc_left.specs.Place.{AreOfOneRun, intending, is_intent, is_unknown, occupied, process_in, vacated};
     ghost use Rattle.svc_left.specs.Place.{wanting};
 
-    /// The place before a start that an svscan of this session intended at this tick.
+    /// Returns the place before a start that an svscan with this session intended at this tick.
     pub fn intending(&self, tick: u64, session: u64) -> Place
         ensures { result ≡ intending self.now tick session }
     {
@@ -158,14 +158,14 @@ impl Place {
         }
     }
 
-    /// The place after a start that made the process of this number, which began at this tick.
+    /// Returns the place after a start made the process with this number, which began at this tick.
     pub fn occupied(&self, pid: u32, tick: u64) -> Place
         ensures { result ≡ occupied self.now pid tick }
     {
         Place { pid, tick, ..*self }
     }
 
-    /// The place after a start that made no process: none is intended any more.
+    /// Returns the place after a start made no process: no start is intended any more.
     pub fn vacated(&self) -> Place
         ensures { result ≡ vacated self.now }
     {
@@ -176,35 +176,35 @@ impl Place {
         }
     }
 
-    /// The place of a service of which an svscan that left no place may have started a process.
+    /// Returns the place of a service if an svscan that left no place may have started a process of it.
     pub fn intending_unknown(&self) -> Place
         ensures { result ≡ intending self.now 1 0 }
     {
         self.intending(1, 0)
     }
 
-    /// Whether neither the time nor the session of the start that it intends is known.
+    /// Returns whether the time and the session of the intended start are both unknown.
     pub fn is_unknown(&self) -> bool
         ensures { result ≡ is_unknown self.now }
     {
         self.pid == 0 && self.tick == 1 && self.session == 0
     }
 
-    /// The place of a service of which this is wanted.
+    /// Returns the place with this wanted.
     pub fn wanting(&self, want: Want) -> Place
         ensures { result ≡ wanting self.now want }
     {
         Place { want, ..*self }
     }
 
-    /// Whether a start was intended whose process is not known.
+    /// Returns whether a start was intended, and its process is not known.
     pub fn is_intent(&self) -> bool
         ensures { result ≡ is_intent self.now }
     {
         self.pid == 0 && self.tick != 0
     }
 
-    /// The process that it names.
+    /// Returns the process in the place.
     pub fn process(&self) -> Option<ProcessId>
         ensures process { result ≡ process_in self.now }
         ensures number { IfSome result (λ process. 0 < process.pid) }
@@ -219,7 +219,7 @@ impl Place {
         })
     }
 
-    /// Whether both are of one run of the system: of one boot, and with the same first process.
+    /// Returns whether both are from one run of the system: they have the same boot and the same first process.
     pub fn is_of_run(&self, here: &Place) -> bool
         ensures { IsTrue result ↔ AreOfOneRun self.now here.now }
     {

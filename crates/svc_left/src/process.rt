@@ -1,4 +1,4 @@
-//! The process of a service that was started last, in a line.
+//! The process of a service that was started last, as a line.
 ghost use Rattle.std.specs.Prelude.{◌≡◌, ◌<◌, ◌≤◌, ◌+◌, ◌^◌, ◌++◌, ◌∷◌, ◌==◌, ℕ, List, codes, decimal, length};
 ghost use Rattle.std.specs.Prelude.{position};
 ghost use Rattle.std.specs.Prelude.{Some, IfSome, IsSomeAnd};
@@ -19,7 +19,7 @@ pub type ProcessLine = ArrayVec<u8, 80>;
 /// A process, distinguished from every other that ever ran: its number, and when it began.
 #[derive(Clone, Copy, Debug, PartialEq, Eq)]
 pub struct ProcessId {
-    /// Its number.
+    /// The number of the process.
     pub pid: u32,
     /// The tick of the kernel's clock at which it began.
     pub tick: u64,
@@ -27,14 +27,14 @@ pub struct ProcessId {
     pub boot: BootId,
 }
 
-/// What became of the process that was recorded.
+/// What became of the recorded process.
 #[derive(Clone, Copy, Debug, PartialEq, Eq)]
 pub enum Found {
-    /// None was recorded in this boot.
+    /// No process was recorded in this boot.
     Unknown,
-    /// It ran in this boot, and is gone.
+    /// The process ran in this boot, and is gone.
     Gone,
-    /// It runs.
+    /// The process is alive.
     Lives(ProcessId),
 }
 
@@ -50,7 +50,7 @@ pub(crate) fn push_number<const N: usize>(line: &mut ArrayVec<u8, N>, number: u6
     line.push(b' ');
 }
 
-/// The line that records a process, with its newline: `PID TICK BOOT`.
+/// Returns the line that records a process, with its newline: `PID TICK BOOT`.
 pub fn process_line(process: &ProcessId) -> ProcessLine
     ensures { result.items ≡ process_line process.now }
 {
@@ -62,7 +62,7 @@ pub fn process_line(process: &ProcessId) -> ProcessLine
     line
 }
 
-/// The place of the first space.
+/// Returns the place of the first space.
 fn space_at(text: &[u8]) -> Option<usize>
     ensures place { result ≡ position (λ byte. byte == 32) text.now }
     ensures within { IfSome result (λ place. place < length text.now) }
@@ -70,7 +70,7 @@ fn space_at(text: &[u8]) -> Option<usize>
     text.iter().position(|byte| *byte == b' ')
 }
 
-/// The number in front of the first space, and what stands behind that.
+/// Reads the number before the first space. Returns it, and what comes after that space.
 pub(crate) fn split_number(text: &[u8]) -> Option<(u64, &[u8])>
     ensures only { (number : ℕ) (rest : List ℕ) → number < 2 ^ 64 → text.now ≡ decimal number ++ 32 ∷ rest
         → IsSomeAnd result (AreParts number rest) }
@@ -80,14 +80,14 @@ pub(crate) fn split_number(text: &[u8]) -> Option<(u64, &[u8])>
     Some((number, &text[at + 1..]))
 }
 
-/// The boot that a line ends with.
+/// Reads the boot at the end of a line.
 pub(crate) fn read_boot(text: &[u8]) -> Option<BootId>
     ensures only { (boot : List ℕ) → length boot ≡ 36 → text.now ≡ boot ++ codes "\n" → result ≡ Some boot }
 {
     BootId::try_from(text.strip_suffix(b"\n")?).ok()
 }
 
-/// The process that a text can be the line of.
+/// Returns the only process that can have this line.
 fn process_meant(text: &[u8]) -> Option<ProcessId>
     ensures only { (process : ProcessId) → IsProcess process → text.now ≡ process_line process → result ≡ Some process }
 {
@@ -98,7 +98,7 @@ fn process_meant(text: &[u8]) -> Option<ProcessId>
     Some(ProcessId { pid, tick, boot })
 }
 
-/// The process of which this is the line, with its newline, as `process_line` makes it.
+/// Reads the line of a process, with its newline, as `process_line` makes it.
 pub fn read_process(text: &[u8]) -> Option<ProcessId>
     ensures found { IfSome result (λ process. (text.now ≡ process_line process) × (0 < process.pid)) }
     ensures only { (process : ProcessId) → IsProcess process → text.now ≡ process_line process → result ≡ Some process }
@@ -111,8 +111,8 @@ pub fn read_process(text: &[u8]) -> Option<ProcessId>
     }
 }
 
-/// What became of the process that was recorded: `boot` is this boot, and `tick` when the process of its number began
-/// that there is now, if there is one.
+/// Returns what became of the recorded process. `boot` is this boot. `tick` is when the process that now has its number
+/// began, if there is one.
 pub fn find(recorded: Option<ProcessId>, boot: &BootId, tick: Option<u64>) -> Found
     ensures { IsFound recorded boot.now tick result }
 {

@@ -1,4 +1,4 @@
--- What turns ask of a world is what the written table asks.
+-- What turns ask of a world is what the written table asks for.
 use Rattle.std.proofs.Common.{◌≡◌, List, [], ◌∷◌, ◌++◌, Option, Some, None, Result, Ok, Err, IfSome, IfOk}
 use Rattle.std.proofs.Common.{OnErr}
 use Rattle.std.proofs.Common.{refl, sym, ap, ◌∙◌, subst, append_assoc}
@@ -64,7 +64,7 @@ none_with Empty found p = none_before found p
 none_with (One event) found p = refl
 none_with (ByteThenDeath byte label) found p = refl
 
--- What was asked goes on with the calls.
+-- What was asked grows with the calls.
 
 asks_more : (old new : Option (List Call)) (more : List Call) (past asks : List Ask)
     → ExtendedWhileKept old new more → asks_in more ≡ asks
@@ -102,7 +102,7 @@ in_vain phase.Down until old new polled =
 in_vain phase.Gone until old new polled =
     record { more = []; extended = subst (λ calls. ExtendedWhileKept old calls []) (sym polled) (extended-none old); none = refl }
 
--- A house's world was asked these, and then what the table asks at the events that were published.
+-- A house's world was asked these, followed by what the table asks for at the published events.
 pub record IsAsked {I : Type 0} (first : List Ask) (opening : State) (events : List Event) (s : Standing I) : Type 0 where
   pub opening_is : s.opening ≡ opening
   pub events_are : s.events ≡ events
@@ -130,7 +130,7 @@ still first opening events old new same still_are polls is =
           polls.none is.asks;
     })
 
--- A turn asks what the table asks at the event that it took, if it took one.
+-- A turn asks for what the table asks for at the event that it took, if it took one.
 pub asked_on : {I : Type 0} (first : List Ask) (opening : State) (events : List Event) (old new : Standing I)
     (turned : Result Turned HouseFault)
     → IsSameHouse old new → IfOk turned (λ turned. IsTurn old turned new) → OnErr turned (IsRefused old new)
@@ -181,7 +181,7 @@ turned_round : (kept : Option (List Call)) (events : List Event)
 turned_round None events facts = tt
 turned_round (Some calls) events facts = sym facts
 
--- What was answered, by the facts of a house whose events and pending are these
+-- What the world returned, by the facts of a house with these events and this pending
 pub answers_are : (calls kept : Option (List Call)) (events found : List Event) (pending left : Pending)
     → calls ≡ kept → found ≡ events → left ≡ pending
     → IfSome kept (λ calls. outcomes_in (found ++ events_in pending) ≡ answers_in calls)

@@ -26,7 +26,7 @@ module _ {T A : Type 0} where
       number (suc zero) lt = (1, b, refl, nb)
       number (suc (suc k)) lt = absurd (omega arith)
 
-  -- the two that were opened, taken off the back
+  -- the two that were opened, taken from the end
   pub opened_two : (m : Mailbox T A) (ss : List (Sender T A)) (capacity : ℕ) (l : List (Sender T A)) (a b : Sender T A)
       → length ss ≡ 2 → AreNewSenders capacity 2 (box_of m) ss → ss ≡ (l ++ a ∷ []) ++ b ∷ []
       → IsNewSender capacity 2 (box_of m) 0 a × IsNewSender capacity 2 (box_of m) 1 b

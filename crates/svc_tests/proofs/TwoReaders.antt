@@ -21,7 +21,7 @@ all_two s rs a b is first second n = subst (λ l. AreAllReaders s l) (sym is) (e
     number (suc zero) lt = (1, b, refl, second.1)
     number (suc (suc k)) lt = absurd (omega arith)
 
--- the two that were opened, taken off the back
+-- the two that were opened, taken from the end
 pub opened_two : (s : Origin) (rs l : List Reader) (a b : Reader) → length rs ≡ 2 → AreNewReaders s rs
     → rs ≡ (l ++ a ∷ []) ++ b ∷ []
     → IsNewReader s 0 a × IsNewReader s 1 b

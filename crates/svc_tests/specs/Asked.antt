@@ -1,4 +1,4 @@
--- What a world was asked, beside what the written table asks.
+-- What a world was asked, compared with what the written table asks for.
 use Rattle.std.specs.Prelude.{◌≡◌, Bool, List, [], ◌∷◌, ◌++◌, IfSome, Option, Result, Ok}
 use Rattle.tai_status.specs.Label.{Tai64n}
 use Rattle.sup_core.specs.declared.asks.Ask.{Ask}
@@ -18,7 +18,7 @@ asks_in [] = []
 asks_in (Requested ask ∷ calls) = ask ∷ asks_in calls
 asks_in (call ∷ calls) = asks_in calls
 
--- what the written table asks of a service that begins, and at these events
+-- what the written table asks for when a service begins, and at these events
 abbrev pub wanted_asks : (down : Bool) → Tai64n → List Event → List Ask
 wanted_asks down label events =
     asks_of_begin (Begin down label) ++ asks_along (Opened (state_of (Begin down label))) events
@@ -28,6 +28,6 @@ abbrev pub taken_by : Result Turned HouseFault → List Event
 taken_by (Ok (Took event)) = event ∷ []
 taken_by turned = []
 
--- Calls that were kept ask what the written table asks.
+-- The asks in these calls, if they were kept, are those of the written table.
 abbrev pub IsAskedSo : (down : Bool) → Tai64n → List Event → Option (List Call) → Type 0
 IsAskedSo down label events calls = IfSome calls (λ calls. asks_in calls ≡ wanted_asks down label events)

@@ -1,4 +1,4 @@
-//! The loop of one service, over worlds with set answers.
+//! The loop of one service, over worlds with set results.
 ghost use Rattle.std.specs.Prelude.{◌≡◌, [], Some, IfOk, IfErr};
 ghost use Rattle.tai_status.specs.declared.phase.Phase.{Phase};
 ghost use Rattle.sup_core.specs.History.{phase_of};
@@ -27,7 +27,7 @@ use svc_station::writer::Writer;
 use tai_status::{Label, View, Want};
 use test_base::Scarce;
 
-// A service over a mailbox of two senders, with a station of two readers.
+// A service with a mailbox of two senders, and with a station of two readers.
 struct Stage<A: Allocator + Clone> {
     house: House<Script, MailInbox<A>, OpenGate>,
     mailbox: Mailbox<u8, A>,
@@ -80,7 +80,7 @@ impl<A: Allocator + Clone> Stage<A> {
         self.house.turn(rt)
     }
 
-    // Whether the byte was posted.
+    // Returns whether the byte was posted.
     fn post<R: Wait>(&mut self, rt: &R, byte: u8) -> bool {
         self.first.post(rt, byte).is_ok()
     }
@@ -121,8 +121,8 @@ impl<A: Allocator + Clone> Stage<A> {
         wound
     }
 
-    // The world, what was pending, and what a reader reads that learnt the writer's note: the status, and how many
-    // events there were.
+    // Returns the world, what was pending, and what a reader reads after it learnt the writer's note: the status, and
+    // how many events there were.
     fn end<R: Wait + Abort>(self, rt: &R, alloc: Global) -> (Script, Pending, View, Option<u64>) {
         let Stage {
             house,
@@ -146,7 +146,7 @@ impl<A: Allocator + Clone> Stage<A> {
     }
 }
 
-// What was tried of a service that is wound up after two turns, and how that went.
+// What was tried with a service that is wound up after two turns, and the results.
 #[derive(Drop)]
 struct Wound<A: Allocator> {
     early: WindFault,
@@ -157,7 +157,7 @@ struct Wound<A: Allocator> {
     entries: usize,
 }
 
-// Winds a service up that is gone. Where there was no memory it lifts the limit, and winds up what came back.
+// Winds up a service that is gone. If there was no memory, it lifts the limit, and winds up what came back.
 fn wind_up_gone<A: Allocator + Clone, R: Wait>(
     rt: &R,
     limited: Option<&Scarce<Global>>,
@@ -192,7 +192,7 @@ fn wind_up_gone<A: Allocator + Clone, R: Wait>(
     }
 }
 
-// Winds a service up, which it refuses, and again after two turns. The reader reads what is left of it.
+// Winds up a service, which is refused, and again after two turns. The reader reads what is left of the service.
 fn wind_up_twice<A: Allocator + Clone, R: Wait>(
     rt: &R,
     alloc: Global,
@@ -253,19 +253,19 @@ fn wind_up_twice<A: Allocator + Clone, R: Wait>(
     }
 }
 
-// The label of a Unix second.
+// Returns the label of a Unix second.
 pub(crate) fn at(second: u64) -> Result<Label, Fail> {
     Ok(Label::from_unix(second, 0).ok_or("a small second has a label")?)
 }
 
-// Whether the ask is this, as `sim` writes it.
+// Returns whether the ask is this one, as `sim` writes it.
 fn is_ask(ask: Ask, wanted: &str) -> bool {
     let mut one = Asks::new();
     one.try_push(ask);
     took_text(&one, Phase::Down).as_str() == wanted
 }
 
-// Whether these are the asks among calls that were kept, each as `sim` writes it.
+// Returns whether these are the asks among calls that were kept, each as `sim` writes it.
 fn are_asks(calls: Option<&[Call]>, wanted: &[&str]) -> bool {
     let Some(calls) = calls else {
         return false;
@@ -282,7 +282,7 @@ fn are_asks(calls: Option<&[Call]>, wanted: &[&str]) -> bool {
     count == wanted.len()
 }
 
-// Whether the turns are these.
+// Returns whether the turns are these.
 fn are_turns<A: Allocator + Clone, R: Wait>(
     rt: &R,
     stage: &mut Stage<A>,
@@ -337,7 +337,7 @@ fn a_service_from_its_start_to_its_death(rt: HostRuntime) -> Result<(), Fail> {
     Ok(())
 }
 
-/// A service that dies at once still hears the letter that was posted before its first turn.
+/// A service that dies at once still gets the letter that was posted before its first turn.
 #[test]
 fn a_letter_goes_before_a_death(rt: HostRuntime) -> Result<(), Fail> {
     let (l1, l2, l3, l4) = (at(1)?, at(2)?, at(3)?, at(4)?);
@@ -369,7 +369,7 @@ fn a_letter_goes_before_a_death(rt: HostRuntime) -> Result<(), Fail> {
     Ok(())
 }
 
-/// A start that fails is asked for again once the rest is over.
+/// A start that fails is asked for again after the rest.
 #[test]
 fn a_start_that_fails_comes_again(rt: HostRuntime) -> Result<(), Fail> {
     let (l1, l2) = (at(1)?, at(2)?);
@@ -398,7 +398,7 @@ fn a_start_that_fails_comes_again(rt: HostRuntime) -> Result<(), Fail> {
     Ok(())
 }
 
-/// What is taken apart was published.
+/// A service that is taken apart has published its events.
 #[test]
 fn a_service_is_taken_apart(rt: HostRuntime) -> Result<(), Fail> {
     let script = Script::new([None, None], [None, None], at(0)?);
@@ -442,7 +442,7 @@ fn a_service_is_wound_up(rt: HostRuntime) -> Result<(), Fail> {
     Ok(())
 }
 
-/// Where there is no memory for the letters that are left, all comes back, and can be wound up once there is.
+/// If there is no memory for the letters that are left, all parts come back, and can be wound up when there is memory.
 #[test]
 fn a_winding_up_is_refused_and_made_again(rt: HostRuntime) -> Result<(), Fail> {
     for growths in 0..400u64 {

@@ -1,5 +1,6 @@
-//! Tests of the threads' crates, of what no contract can say: that letters, publications and pieces cross threads, that
-//! memory serves where it is ample, and what stands where it, or a device, fails at each place in turn.
+//! Tests of the threads' crates, for what no contract can say. Letters, publications and pieces cross threads. Calls
+//! succeed when there is enough memory. The tests also show the state after memory, or a device, fails at each place in
+//! turn.
 #![tactic(auto)]
 
 #[cfg(test)]

@@ -18,7 +18,7 @@ use svc_mail::sender::Sender;
 use svc_mail::whole::every_letter_arrives;
 use test_base::Scarce;
 
-// The two senders of a mailbox that was just opened, and the vector that held them.
+// Returns the two senders of a mailbox that was just opened, and the vector that held them.
 pub(crate) fn two_of<T: Copy, A: Allocator + Clone>(
     mut senders: Vec<Sender<T, A>, A>,
     capacity: usize,
@@ -34,7 +34,7 @@ pub(crate) fn two_of<T: Copy, A: Allocator + Clone>(
     (first, second, senders)
 }
 
-// Closes a mailbox of two senders. Where there was no memory it lifts the limit, and closes what came back.
+// Closes a mailbox of two senders. If there was no memory, it lifts the limit, and closes what came back.
 fn close_two<T: Copy, A: Allocator + Clone, R: Wait>(
     rt: &R,
     limited: Option<&Scarce<Global>>,
@@ -121,7 +121,7 @@ fn a_mailbox_of_64_refuses_the_65th_letter(rt: HostRuntime) -> Result<(), Fail> 
     Ok(())
 }
 
-// Posts an item, and again where it comes back.
+// Posts an item, and tries again as long as it comes back.
 fn post_until<R: Wait>(rt: &R, sender: &mut Sender<u32>, item: u32)
     ensures same { IsSameSender sender.old sender.new }
     ensures posted { posted sender.new ≡ posted sender.old ++ item ∷ [] }
@@ -145,7 +145,7 @@ fn post_all<R: Wait>(rt: &R, mut sender: Sender<u32>, items: &[u32]) -> Sender<u
     sender
 }
 
-// The next letter, once there is one.
+// Waits for the next letter, and takes it.
 fn take_until<R: Wait>(rt: &R, receiver: &mut Receiver<u32>) -> Letter<u32>
     ensures same { IsSameReceiver receiver.old receiver.new }
     ensures taken { taken_by receiver.new ≡ taken_by receiver.old ++ result ∷ [] }
@@ -159,7 +159,7 @@ fn take_until<R: Wait>(rt: &R, receiver: &mut Receiver<u32>) -> Letter<u32>
     unreachable!()
 }
 
-// Takes so many letters.
+// Takes this many letters.
 fn take_all<R: Wait>(
     rt: &R,
     mut receiver: Receiver<u32>,

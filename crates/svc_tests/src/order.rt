@@ -1,4 +1,4 @@
-//! In which order a turn looks at the gate, the world and the inbox.
+//! The order in which a turn looks at the gate, the world and the inbox.
 
 use crate::station::{end_two, two_of as two_readers};
 use std::alloc::Global;
@@ -12,7 +12,7 @@ use svc_house::{Gate, House, Inbox, StartAnswer, World};
 use svc_station::station::Station;
 use tai_status::Label;
 
-// What was looked at so far, in order: a digit each.
+// What was looked at so far, in order: a digit for each look.
 type Looks = Arc<AtomicU64, Global>;
 
 const GATE: u64 = 1;
@@ -62,7 +62,7 @@ impl Inbox for NotedInbox {
     }
 }
 
-// A world whose start is answered at once and whose process lives, which notes each look.
+// A world with a start that has its result at once and a process that stays alive. It notes each look.
 #[derive(Drop)]
 struct NotedWorld {
     looks: Looks,
@@ -101,7 +101,7 @@ impl World for NotedWorld {
     }
 }
 
-// What the first turns of a service look at that starts, settles and is up.
+// Returns what the first turns look at, of a service that starts, settles and is up.
 fn looks_of_three_turns<R: Wait + Abort>(rt: &R, alloc: Global) -> Option<u64> {
     let looks = Arc::new(alloc, AtomicU64::new(0)).ok()?;
     let world = NotedWorld {
@@ -134,7 +134,8 @@ fn looks_of_three_turns<R: Wait + Abort>(rt: &R, alloc: Global) -> Option<u64> {
     }
 }
 
-/// The gate is passed before the answer to a start is looked at, and a death is looked for before a letter.
+/// The gate is passed before the result of a start is polled, and the world is polled for a death before the inbox for
+/// a letter.
 #[test]
 fn turns_look_in_order(rt: HostRuntime) {
     assert_eq!(rt; looks_of_three_turns(&rt, rt.alloc()), Some(1234));

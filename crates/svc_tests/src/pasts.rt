@@ -1,4 +1,4 @@
-//! What a world was asked in a run of turns, beside what the written table asks.
+//! What a world was asked in a run of turns, compared with what the written table asks for.
 ghost use Rattle.std.specs.Prelude.{◌≡◌, ◌≤◌, ◌++◌, [], Some, IfSome};
 ghost use Rattle.svc_house.specs.Calls.{answers_in, outcomes_in};
 ghost use Rattle.svc_house.specs.Pending.{events_in};
@@ -52,7 +52,7 @@ fn note<R: Abort>(rt: &R, events: &mut Vec<Event>, turned: &Result<Turned, House
     }
 }
 
-/// A world that was called; the events that were published; and what was found and is not published.
+/// A world that was called, the events that were published, and what was found and is not published yet.
 #[derive(Drop)]
 struct Ran {
     world: Script,
@@ -60,8 +60,9 @@ struct Ran {
     pending: Pending,
 }
 
-/// So many turns of a service that begins. Its world is asked what the written table asks at the begin and at the
-/// events that were published, in order, and nothing else; it answered those of them that a world answers.
+/// Makes this many turns of a service that begins. Its world is asked what the written table asks for at the beginning
+/// and at the published events, in order, and nothing else. The starts and deaths that it returned are the published
+/// ones, and then a pending one.
 fn run<R: Wait + Abort>(
     rt: &R,
     alloc: Global,
@@ -101,7 +102,7 @@ fn run<R: Wait + Abort>(
     })
 }
 
-// Whether these are the calls that are no asks, in order.
+// Returns whether these calls, in order, are those that are no asks.
 fn are_polls(calls: &[Call], wanted: &[Call]) -> bool {
     let mut count = 0;
     for call in calls {
@@ -116,7 +117,8 @@ fn are_polls(calls: &[Call], wanted: &[Call]) -> bool {
     count == wanted.len()
 }
 
-/// A service starts, hears `d` and then, as it dies, `u`, and starts again: eleven asks, and between them the polls.
+/// A service starts, gets `d` and then, as it dies, `u`, and starts again: there are eleven asks, and polls between
+/// them.
 #[test]
 fn a_world_is_asked_what_the_table_asks(rt: HostRuntime) -> Result<(), Fail> {
     let (begun, first, read) = (at(0)?, at(1)?, at(2)?);

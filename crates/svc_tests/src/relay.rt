@@ -22,7 +22,7 @@ use svc_relay::whole::every_byte_passes;
 use tai_status::{Counted, Input};
 use test_base::Slow;
 
-/// The input of one life of a logger: it takes at most two bytes a put, so many in all, and then fails.
+/// The input of one life of a logger. It takes at most two bytes in each put, and this many in all, and then fails.
 #[derive(Drop)]
 struct Life {
     held: Vec<u8>,
@@ -62,7 +62,7 @@ impl Outlet for Life {
     }
 }
 
-// A mailbox of pieces with one sender, its receiver, and the vector that held the sender.
+// Opens a mailbox of pieces with one sender. Returns it with its receiver, and the vector that held the sender.
 fn open(
     alloc: Global,
     capacity: usize,
@@ -85,7 +85,8 @@ fn open(
     Ok((mailbox, sender, receiver, senders))
 }
 
-// Closes the mailbox between an intake and a relay: what was read is what was put, and what is still between them.
+// Closes the mailbox between an intake and a relay. What was read is what was put, followed by what is still between
+// them.
 fn close_one<D: Read + Drop, O: Outlet + Drop, R: Wait>(
     rt: &R,
     mailbox: Mailbox<Piece>,
@@ -179,7 +180,7 @@ fn each_logger_may_live_for_a_byte(rt: HostRuntime) -> Result<(), Fail> {
     Ok(())
 }
 
-/// A reader that counts its reads, and gives two bytes a read.
+/// A reader that counts its reads, and gives two bytes in each read.
 #[derive(Drop)]
 struct Watched<'a> {
     reads: &'a Cell<u64>,
@@ -210,7 +211,7 @@ fn a_piece_waits_while_the_mailbox_is_full(rt: HostRuntime) -> Result<(), Fail> 
     let (mailbox, sender, receiver, ends) = open(rt.alloc(), 1)?;
     let mut intake = Intake::new(reader, sender);
     let mut relay = Relay::new(receiver, Life::taking(rt.alloc(), 100));
-    // One read a turn, which does not wait for a full piece.
+    // Each turn reads once, and does not wait for a full piece.
     assert_eq!(rt;
         (intake.turn(&rt), reads.get()),
         (Ok(IntakeTurn::Moved(2)), 1)
@@ -249,7 +250,7 @@ fn a_reader_that_fails_loses_no_byte(rt: HostRuntime) -> Result<(), Fail> {
     Ok(())
 }
 
-/// A service that writes so many bytes, each by its place.
+/// A service that writes this many bytes, each computed from its place.
 #[derive(Drop)]
 struct Writing {
     place: u64,
@@ -272,7 +273,7 @@ impl Read for Writing {
     }
 }
 
-// Turns until the reader is at its end, and answers whether it was.
+// Makes turns until the reader is at its end. Returns whether it was.
 fn read_all<R: Wait>(rt: &R, reader: Input<BufReader<Writing>>, sender: Sender<Piece>) -> bool
     requires { posted sender ≡ [] }
 {
@@ -288,7 +289,7 @@ fn read_all<R: Wait>(rt: &R, reader: Input<BufReader<Writing>>, sender: Sender<P
     unreachable!()
 }
 
-// Turns until so many bytes are put, and answers the logger that has them.
+// Makes turns until this many bytes are put. Returns the logger that has them.
 fn put_all<R: Wait>(rt: &R, receiver: Receiver<Piece>, life: Life, next: Life, most: u64) -> Life
     requires taken { taken_by receiver ≡ [] }
     requires put { (life.held.items ≡ []) × (next.held.items ≡ []) }
@@ -308,7 +309,7 @@ fn put_all<R: Wait>(rt: &R, receiver: Receiver<Piece>, life: Life, next: Life, m
     unreachable!()
 }
 
-// One thread reads a service's output, with a buffer below, and another puts so many bytes into a logger.
+// One thread reads a service's output, through a buffer, and another puts this many bytes into a logger.
 fn carry<R: Threads + Wait + Copy + Send + 'static>(
     rt: R,
     alloc: Global,

@@ -1,4 +1,4 @@
-//! A world with set answers, which keeps its calls.
+//! A world with set results, which keeps its calls.
 ghost use Rattle.std.specs.Prelude.{◌≡◌, ◌∷◌, [], IfSome};
 ghost use Rattle.svc_house.specs.Calls.{IsAnswer, death_poll, start_poll};
 
@@ -8,10 +8,10 @@ use sup_core::{Ask, Event, Sig};
 use svc_house::{Call, StartAnswer, World};
 use tai_status::Label;
 
-/// How many calls a world keeps.
+/// The most calls that a world keeps.
 const MOST_CALLS: usize = 40;
 
-// A world with set answers, one for each poll. It keeps its calls, as long as there is room. Contracts see these.
+// A world with set results, one for each poll. It keeps its calls as long as there is room. Contracts see them.
 #[derive(Drop)]
 pub(crate) struct Script {
     starts: [Option<StartAnswer>; 2],
@@ -40,7 +40,7 @@ impl Script {
     ghost use Rattle.std.specs.Prelude.{◌≡◌, ◌∷◌, [], Some, option_copied};
     ghost use Rattle.svc_house.specs.Calls.{ExtendedWhileKept};
 
-    // One that was not called yet.
+    // Returns a world that was not called yet.
     pub(crate) fn new(
         starts: [Option<StartAnswer>; 2],
         deaths: [Option<Label>; 2],
@@ -60,7 +60,7 @@ impl Script {
         }
     }
 
-    // Its calls in order, unless there was no room for one.
+    // Returns its calls in order, unless there was no room for one.
     pub(crate) fn calls(&self) -> Option<&[Call]>
         ensures { option_copied result ≡ self.now }
     {
@@ -83,7 +83,7 @@ impl Script {
     }
 }
 
-// The next answer, if one is left.
+// Returns the next result, if one is left.
 fn answer<T: Copy>(answers: &[Option<T>], polls: &mut usize) -> Option<T> {
     let place = *polls;
     *polls = place.saturating_add(1);
@@ -93,7 +93,7 @@ fn answer<T: Copy>(answers: &[Option<T>], polls: &mut usize) -> Option<T> {
     }
 }
 
-// The call that was a poll for the answer to a start.
+// Returns the call that polled for the result of a start.
 fn start_call(found: &Option<StartAnswer>) -> Call
     ensures { start_poll found.now ≡ result ∷ [] }
 {
@@ -103,7 +103,7 @@ fn start_call(found: &Option<StartAnswer>) -> Call
     }
 }
 
-// The call that was a poll for a death.
+// Returns the call that polled for a death.
 fn death_call(found: &Option<Label>) -> Call
     ensures { death_poll found.now ≡ result ∷ [] }
 {
@@ -113,7 +113,7 @@ fn death_call(found: &Option<Label>) -> Call
     }
 }
 
-// That answer, if it is one: a start that made a process has its number.
+// Returns that result if it is valid: a start that made a process has its number.
 fn lawful(found: Option<StartAnswer>) -> Option<StartAnswer>
     ensures { IfSome result IsAnswer }
 {

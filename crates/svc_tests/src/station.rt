@@ -18,7 +18,7 @@ use svc_station::writer::Writer;
 use tai_status::{Label, View, Want};
 use test_base::Scarce;
 
-// The two readers of a station that was just opened, and the vector that held them.
+// Returns the two readers of a station that was just opened, and the vector that held them.
 pub(crate) fn two_of(mut readers: Vec<Reader>, writer: &Writer) -> (Reader, Reader, Vec<Reader>)
     requires { (length readers.items ≡ 2) × AreNewReaders (station writer.now) readers.items }
     ensures first { IsNewReader (station writer.now) 0 result.0 }
@@ -30,7 +30,7 @@ pub(crate) fn two_of(mut readers: Vec<Reader>, writer: &Writer) -> (Reader, Read
     (first, second, readers)
 }
 
-// Ends a station of two readers, in a vector that held them.
+// Ends a station with two readers, in the vector that held them.
 pub(crate) fn end_two<R: Wait + Abort>(
     rt: &R,
     writer: Writer,
@@ -48,8 +48,8 @@ pub(crate) fn end_two<R: Wait + Abort>(
     writer.end(rt, room);
 }
 
-// What a reader reads: the status, and how many events were published, where there is memory for the trace. It takes no
-// `Wait`.
+// Returns what a reader reads: the status, and how many events were published, if there is memory for the trace. It
+// takes no `Wait`.
 fn read(reader: &mut Reader, alloc: Global) -> (View, Option<u64>)
     ensures { IsSameReader reader.old reader.new }
 {
@@ -60,7 +60,7 @@ fn read(reader: &mut Reader, alloc: Global) -> (View, Option<u64>)
     (reader.status(), count)
 }
 
-// What a reader knows begins what was published, which is all that was added.
+// Checks that what a reader knows begins what was published, which is all that was added.
 fn begins_what_was_published<R: Abort>(rt: &R, reader: &Reader, writer: &mut Writer)
     requires { reader_station reader.now ≡ station writer.old }
     ensures begins { IsPrefix (known_to reader.now) (published writer.old) }
@@ -70,7 +70,7 @@ fn begins_what_was_published<R: Abort>(rt: &R, reader: &Reader, writer: &mut Wri
     was_published(reader, writer);
 }
 
-// Each growth of a trace is refused in turn, and what was read before is read again.
+// Refuses each growth of a trace in turn. What was read before is read again.
 fn trace_growth_by_growth<R: Abort>(rt: &R, alloc: Global, reader: &mut Reader)
     ensures { IsSameReader reader.old reader.new }
 {
@@ -87,7 +87,7 @@ fn trace_growth_by_growth<R: Abort>(rt: &R, alloc: Global, reader: &mut Reader)
     rt.panic("it never has enough");
 }
 
-/// Opening and traces alone grow, and publishing succeeds without memory.
+/// Only opening and traces take memory, and publishing succeeds without memory.
 #[test]
 fn readers_read_what_was_published(rt: HostRuntime) {
     let label = Label::from_unix(0, 0).expect(&rt, "a label");
@@ -116,7 +116,7 @@ fn readers_read_what_was_published(rt: HostRuntime) {
     end_two(&rt, writer, first, second, room);
 }
 
-// A machine whose service is up.
+// Returns a machine for a service that is up.
 fn machine_up(label: Label) -> Machine {
     let (mut machine, _asks) = Machine::begin(false, label);
     machine.step(Event::Started { pid: 4711, label });
@@ -133,7 +133,7 @@ fn publish_byte<R: Wait + Abort>(rt: &R, writer: &mut Writer, byte: u8)
     writer.publish(rt, Event::Byte(byte)).expect(rt, "room");
 }
 
-// Publishes the bytes `p` and `c` by turns.
+// Publishes the bytes `p` and `c` in turn.
 fn publish_turns<R: Wait + Abort + Copy + Drop>(rt: R, parked: Parked<R>, turns: u64) -> Parked<R>
     ensures { GoesOn (writer_in parked) (writer_in result) }
 {
@@ -145,7 +145,7 @@ fn publish_turns<R: Wait + Abort + Copy + Drop>(rt: R, parked: Parked<R>, turns:
     Parked::new(writer, rt)
 }
 
-// Reads until so many events were published, and says whether the count never fell.
+// Reads until this many events were published. Returns whether the count never fell.
 fn watch<R: Wait + Abort>(rt: &R, alloc: Global, reader: &mut Reader, all: u64) -> bool
     ensures { IsSameReader reader.old reader.new }
 {
@@ -189,9 +189,9 @@ fn publish_beside<R: Threads + Wait + Abort + Copy + Drop + Send + 'static>(
     }
 }
 
-/// Measured so, on one core each, over 100,000 calls, when a publication exchanged its book's word once and not twice:
-/// it takes 0.5 microseconds with two readers at rest, and 1.9 while one of them reads without a pause; a status takes
-/// 0.1 microseconds, and 0.35 while the writer publishes without a pause.
+/// Measured on one core each, over 100,000 calls, when a publication exchanged its book's word once and not twice. It
+/// took 0.5 microseconds with two idle readers, and 1.9 while one of them read without a pause. A status took 0.1
+/// microseconds, and 0.35 while the writer published without a pause.
 #[test]
 fn a_reader_reads_beside_the_thread_that_publishes(rt: HostRuntime) {
     let label = Label::from_unix(0, 0).expect(&rt, "a label");

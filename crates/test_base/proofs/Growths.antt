@@ -1,5 +1,5 @@
--- `is_refused` at a call: what it is handed, a `&` to the budget and a token of its lifetime, and what a caller has of
--- it, some answer.
+-- A call of `is_refused`: its arguments, which are a `&` to the budget and a token of its lifetime, and what a caller
+-- has afterwards, which is some result.
 use Rattle.std.proofs.Common.{◌≡◌, ℕ, List, [], ◌∷◌, refl, ap, Bool}
 use seplogic.Ra.Ura.{Ura}
 use mir.Syntax.{Body, skip, seq}
@@ -22,7 +22,7 @@ use Rattle.std.specs.contracts.cell.Cell as cell
 use Rattle.test_base.specs.contracts.scarce.Budget as budget
 use Rattle.test_base.specs.contracts.scarce.is_refused as asked
 
--- what stands behind the first statement of a body
+-- what comes after the first statement of a body
 abbrev pub behind : Body → Body
 behind (seq first rest) = rest
 behind other = skip

@@ -1,4 +1,4 @@
-//! A reader and memory for the tests: a reader that gives little, memory that runs out.
+//! A reader and memory for the tests: a reader that gives only a few bytes, and memory that runs out.
 #![tactic(auto)]
 
 mod scarce;

@@ -1,24 +1,24 @@
-//! Memory that runs out after so many growths.
+//! Memory that runs out after a number of growths.
 use std::alloc::{AllocError, Allocator, Global};
 use std::cell::Cell;
 use std::test::Fail;
 
-/// How many growths are still given, and whether one was refused.
+/// How many growths are still granted, and whether one was refused.
 #[derive(Clone, Copy, Debug)]
 struct Budget {
     left: u64,
     refused: bool,
 }
 
-/// Memory that gives so many growths, and refuses the next one and each later one. What was given back serves none of
-/// them. It gives all of them until it is reported how many it gives.
+/// Memory that grants a number of growths, and refuses the next one and each later one. Memory that is freed does not
+/// count. It grants all growths until that number is set.
 pub struct Scarce<B: Allocator> {
     inner: B,
     budget: Cell<Budget>,
 }
 
 impl<B: Allocator> Scarce<B> {
-    /// Memory out of another, which gives what that gives.
+    /// Returns memory that is taken from another, and grants what that one grants.
     pub fn new(inner: B) -> Scarce<B> {
         Scarce {
             inner,
@@ -29,7 +29,7 @@ impl<B: Allocator> Scarce<B> {
         }
     }
 
-    /// From now on it gives so many growths.
+    /// Grants this many growths from now on.
     pub fn give(&self, growths: u64) {
         self.budget.set(Budget {
             left: growths,
@@ -37,7 +37,7 @@ impl<B: Allocator> Scarce<B> {
         });
     }
 
-    /// Whether it refused a growth since it was reported how many it gives. From now on it gives all.
+    /// Returns whether it refused a growth since the number was set. Grants all growths from now on.
     pub fn lift(&self) -> bool {
         let Budget { left: _, refused } = self.budget.get();
         self.budget.set(Budget {
@@ -49,7 +49,7 @@ impl<B: Allocator> Scarce<B> {
 }
 
 impl Scarce<Global> {
-    /// The memory behind it, which refuses nothing.
+    /// Returns the underlying memory, which refuses nothing.
     pub fn ample(&self) -> Global {
         self.inner
     }
@@ -64,7 +64,7 @@ impl<B: Allocator> Drop for Scarce<B> {
     }
 }
 
-/// Counts a growth, and answers whether it is refused.
+/// Counts a growth, and returns whether it is refused.
 fn is_refused(budget: &Cell<Budget>) -> bool {
     let Budget { left, refused } = budget.get();
     budget.set(Budget {
@@ -89,11 +89,11 @@ unsafe impl<B: Allocator> Allocator for Scarce<B> {
     }
 }
 
-/// How many growths a call makes at most.
+/// The most growths of one call.
 const MOST_GROWTHS: u64 = 10_000;
 
-/// Makes a trial with no growth, with one, with two, and so on, up to the first that meets no refusal. A trial is
-/// handed memory, and how many growths its call is given. It returns whether one was refused.
+/// Makes a trial with no growth, with one, with two, and so on, up to the first that meets no refusal. A trial gets the
+/// memory, and the number of growths that its call may make. It returns whether one was refused.
 pub fn refuse_in_turn<F: Fn(&Scarce<Global>, u64) -> Result<bool, Fail>>(
     alloc: Global,
     trial: F,
@@ -109,7 +109,7 @@ pub fn refuse_in_turn<F: Fn(&Scarce<Global>, u64) -> Result<bool, Fail>>(
     Err(Fail::new("it never has enough"))
 }
 
-/// Fails with this text where something does not hold.
+/// Fails with this text if a condition does not hold.
 pub fn check(what: &str, holds: bool) -> Result<(), Fail> {
     if holds { Ok(()) } else { Err(Fail::new(what)) }
 }

@@ -3,8 +3,8 @@ ghost use Rattle.std.specs.Prelude.{◌≡◌, Some, false, true};
 use std::io;
 use std::io::{ErrorKind, Read};
 
-/// A reader that gives a few bytes a read, and is interrupted before each. After the last byte it is
-/// at its end, or fails at each read.
+/// A reader that gives a few bytes in each read, and is interrupted before each. After the last byte it is at its end,
+/// or fails at each read.
 #[derive(Drop)]
 pub struct Slow<'a> {
     bytes: &'a [u8],
@@ -14,7 +14,7 @@ pub struct Slow<'a> {
 }
 
 impl<'a> Slow<'a> {
-    /// A reader of these bytes, at most so many a read, that comes to its end.
+    /// Returns a reader of these bytes that comes to its end, with at most this many bytes in each read.
     pub fn ending(bytes: &'a [u8], most: usize) -> Slow<'a>
         ensures { result.bytes.now ≡ bytes.entry.now }
     {
@@ -26,7 +26,7 @@ impl<'a> Slow<'a> {
         }
     }
 
-    /// A reader of these bytes, at most so many a read, that fails after the last.
+    /// Returns a reader of these bytes that fails after the last, with at most this many bytes in each read.
     pub fn failing(bytes: &'a [u8], most: usize) -> Slow<'a>
         ensures { result.bytes.now ≡ bytes.entry.now }
     {

@@ -9,7 +9,7 @@ use Rattle.clap.specs.declared.builder.command.Command.TheViews.{out-Command as 
 use Rattle.clap.proofs.OnLiterals.{clap_on_literals}
 use Rattle.trace_words.specs.Words.{trace_line, without_extras}
 
--- a command without the program's name and the flags for help and version
+-- a command without the program's name and without the flags for help and version
 pub line-without_extras : (made named helped versioned : Command) (line : App) → app_of made ≡ line
     → fields_of named ≡ record (fields_of made) { no_binary_name = true }
     → fields_of helped ≡ record (fields_of named) { disable_help_flag = true }
@@ -22,7 +22,7 @@ line-without_extras made named helped versioned line is e1 e2 e3 =
     e1
     ∙ ap without_extras is
 
--- clap's specification is exact of such a line
+-- clap's specification is exact for such a line
 pub trace_line-simple : is_simple trace_line ≡ true
 unfolding clap_on_literals
 trace_line-simple = refl

@@ -1,11 +1,11 @@
--- What words ask for, from what a parse of them gave.
+-- What words ask for, by what a parse of them gave.
 use Rattle.std.proofs.Common.{◌≡◌, ◌∙◌, List, ℕ, Bool, [], ◌∷◌, Option, Some, None, codes, refl}
 use Rattle.clap.specs.Words.{IsAmong, Row, fault_of, first_of, matches_of}
 use Rattle.clap.specs.Kinds.{Kinds}
 use Rattle.clap.specs.declared.error.kind.ErrorKind.{ErrorKind}
 use Rattle.trace_words.specs.Words.{asked_of, given_by, is_set, trace_line}
 
--- where no step of the parse fails, words ask for what its rows give
+-- if no step of the parse fails, words ask for what its rows give
 asked-given : (words : List (List ℕ)) → fault_of trace_line words ≡ [] → asked_of words ≡ given_by words
 unfolding asked_of
 asked-given words none = rw none refl
@@ -21,7 +21,7 @@ pub asked-without_file : (words : List (List ℕ)) (rows : List Row) → fault_o
     → rows ≡ matches_of trace_line words → None ≡ first_of (codes "FILE") rows → asked_of words ≡ None
 asked-without_file words rows none is found = asked-given words none ∙ rw (← is, ← found) refl
 
--- where a step of it fails, they ask for nothing
+-- if a step of the parse fails, they ask for nothing
 pub asked-refused : (words : List (List ℕ)) (kind : ErrorKind) → IsAmong kind (fault_of trace_line words)
     → asked_of words ≡ None
 unfolding asked_of

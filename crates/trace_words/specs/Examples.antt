@@ -2,11 +2,11 @@
 use Rattle.std.specs.Prelude.{◌≡◌, List, ℕ, [], ◌∷◌, Bool, true, false, codes, Option, Some, None}
 use Rattle.trace_words.specs.Words.{Request, asked_of}
 
--- They ask for this.
+-- The words ask for this.
 abbrev pub asking : List ℕ → Option (List ℕ) → Bool → Option Request
 asking file at local = Some (record { file = file; at = at; local = local })
 
--- Lines that are taken: `t`, `t --break byte:d`, `--break=byte:d t`, `-- --break`, `--local t`,
+-- Command lines that are taken: `t`, `t --break byte:d`, `--break=byte:d t`, `-- --break`, `--local t`,
 -- `t --break byte:d --local`, `-- --local`.
 pub record TakesLines : Type 0 where
   pub file_alone : asked_of (codes "t" ∷ []) ≡ asking (codes "t") None false
@@ -20,8 +20,8 @@ pub record TakesLines : Type 0 where
       ≡ asking (codes "t") (Some (codes "byte:d")) true
   pub local_behind_dashes : asked_of (codes "--" ∷ codes "--local" ∷ []) ≡ asking (codes "--local") None false
 
--- Lines that are refused: no word, two files, a break twice, a break without its value, an option of another name,
--- help, `--local` with no file, twice, and with a value.
+-- Command lines that are refused: no word; two files; a break twice; a break without its value; an option with another
+-- name; help; `--local` with no file, twice, and with a value.
 pub record RefusesLines : Type 0 where
   pub no_word : asked_of [] ≡ None
   pub two_files : asked_of (codes "t" ∷ codes "u" ∷ []) ≡ None

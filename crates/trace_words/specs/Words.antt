@@ -1,4 +1,4 @@
--- What the words of `trace` ask for. The words of a command line are clap's own (https://docs.rs/clap): its
+-- What the words of `trace` ask for. The words of a command line are those of clap (https://docs.rs/clap): its
 -- specification says which words a command line takes, and what each argument gets.
 use Rattle.std.specs.Prelude.{List, ℕ, [], ◌∷◌, Bool, true, false, bytes_eq, codes, Option, Some, None, option_map}
 use Rattle.clap.specs.Kinds.{Kinds}
@@ -6,7 +6,7 @@ use Rattle.clap.specs.Words.{App, Row, Rule, fault_of, first_of, matches_of, new
 use Rattle.clap.specs.declared.builder.action.ArgAction.TheVariants.{Set, SetTrue}
 use Rattle.trace_words.specs.declared.TraceWords.{TraceWords}
 
--- What words ask for: a file; what to break at, where that is asked; and whether local times are.
+-- What words ask for: a file; the event to break at, if there is one; and whether to show local times.
 pub record Request : Type 0 where
   pub file : List ℕ
   pub at : Option (List ℕ)
@@ -43,22 +43,22 @@ abbrev pub trace_line : App
 trace_line =
     with_rule (with_rule (with_rule (without_extras (new_app (codes "trace"))) file_rule) break_rule) local_rule
 
--- whether a flag is there, by its value
+-- whether a flag is set, by its value
 abbrev pub is_set : Option (List ℕ) → Bool
 is_set (Some text) = bytes_eq text (codes "true")
 is_set None = false
 
--- what words ask for that name this file, by what their arguments got
+-- what words with this file ask for, by what their arguments got
 abbrev pub asked_with : List Row → (file : List ℕ) → Request
 asked_with rows file =
     record { file = file; at = first_of (codes "break") rows; local = is_set (first_of (codes "local") rows) }
 
--- the file that words name, what they break at, and whether they want local times
+-- the file in the words, what they break at, and whether they ask for local times
 abbrev pub given_by : List (List ℕ) → Option Request
 given_by words =
     option_map (asked_with (matches_of trace_line words)) (first_of (codes "FILE") (matches_of trace_line words))
 
--- The same where a parse of the words has no fault, and nothing where it has one.
+-- The same if a parse of the words has no fault, and nothing if it has one.
 abbrev pub where_faultless : Kinds → List (List ℕ) → Option Request
 where_faultless [] words = given_by words
 where_faultless (fault ∷ faults) words = None

@@ -1,7 +1,7 @@
 //! The words of the command `trace`: a file, what to break at, and whether to show local times.
 //!
-//! [`parse_words`] reads them with `clap`, as the command line `FILE [--break SPEC] [--local]`. It is a crate of its
-//! own, so that no crate above it is checked with the code of a parser of command lines.
+//! [`parse_words`] reads them with `clap`, as the command line `FILE [--break SPEC] [--local]`. This is a crate of its
+//! own, so that no crate above is checked together with the code of a command line parser.
 #![tactic(auto)]
 
 ghost use Rattle.std.specs.Prelude.{◌≡◌, map, IfOk, IfErr, Some, None, option_map};
@@ -30,8 +30,8 @@ pub enum WordsFault {
     OutOfMemory,
 }
 
-/// What words ask for, read as `FILE [--break SPEC] [--local]`, the options before the file or after it, the
-/// value of `--break` in the next word or behind `=`. What the command line does not take is `Wrong`.
+/// Reads what words ask for, as `FILE [--break SPEC] [--local]`. Options may come before or after the file, and the
+/// value of `--break` in the next word or after `=`. `Wrong` is returned if the command line does not take the words.
 pub fn parse_words<'a>(alloc: Global, words: &'a [&'a str]) -> Result<TraceWords<'a>, WordsFault>
     ensures asked { IfOk result (λ asked.
         asked_of (map (λ word. word.now) words.entry.now) ≡ Some (request_of asked)) }
@@ -53,7 +53,7 @@ pub fn parse_words<'a>(alloc: Global, words: &'a [&'a str]) -> Result<TraceWords
     }
 }
 
-/// Whether a flag is there, by its value.
+/// Returns whether a flag is set, by its value.
 fn is_set(value: Option<&str>) -> bool
     ensures { result ≡ is_set (option_map (λ text. text.now) value.entry) }
 {

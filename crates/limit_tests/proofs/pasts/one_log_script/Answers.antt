@@ -4,7 +4,7 @@ use Rattle.mlog_script.specs.Script.{Act, Log}
 use Rattle.mlog_script.specs.declared.fault.ScriptFaultKind.{ScriptFaultKind}
 use Rattle.limit_tests.proofs.pasts.one_log_script.Goals as goal
 
--- words that say one action are read as that one
+-- words that ask for one action are read as that action
 one_act : (act : Act) (script : List Act)
     → (let said : List (Result Act ScriptFaultKind) = Ok act ∷ [] in said ≡ map (λ act. Ok act) script)
     → script ≡ act ∷ []

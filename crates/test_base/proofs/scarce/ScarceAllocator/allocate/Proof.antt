@@ -1,4 +1,4 @@
--- It counts the growth; it answers `Err` where that is refused, else what the allocator behind it answers.
+-- It counts the growth. It returns `Err` if the growth is refused, and otherwise what the underlying allocator returns.
 use Rattle.std.proofs.Common.{◌≡◌, ℕ, ◌+◌, ◌^◌, ◌<◌, true, false, Bool, List, [], ◌∷◌, Ok, Err, refl, w64, Bor}
 use seplogic.Ra.Ura.{Ura}
 use mir.Syntax.{Ty, Args, Fn, a_type, dnil, dcons}
