@@ -69,7 +69,7 @@ fn wait_and_tell<R: Wait, S: Services, P: Pace, A: Allocator, E: Write>(
 }
 
 /// The command `wait [-u|-d|-x] [-t SECONDS] SERVICE..`: returns once each service is up and settled, with a process
-/// older than two seconds; or down (`-d`); or no longer supervised (`-x`). It looks at them in rounds, and at each one
+/// that has lived for two seconds; or down (`-d`); or no longer supervised (`-x`). It looks at them in rounds, and at each one
 /// until that was found so once: what happens to it later is not seen. At the end, it reports for each folder that does
 /// not exist why.
 ///
