@@ -1,4 +1,4 @@
--- The child of `envdir`: what a command says of variables, faults that are of no file, and names in byte order.
+-- The child of `envdir`: what a command says of variables, faults that come from no file, and names in byte order.
 use Rattle.std.proofs.Common.{◌≡◌, ℕ, suc, ◌+◌, ◌<◌, ◌||◌, Bool, true, false, List, [], ◌∷◌, drop, drop-cons, length}
 use Rattle.std.proofs.Common.{Option, Some, None, refl, sym, ap, ◌∙◌, inl, inr, arith, subst, String}
 use Rattle.std.proofs.lemmas.List.{length-map, get_or-map}
@@ -18,7 +18,7 @@ use Rattle.cmd_envdir.specs.Child.{said_of, AreInByteOrder, IsBeforeStart, IsOfS
 use Rattle.cmd_envdir.specs.Ends.{starved, IsFirstFault}
 use Rattle.cmd_envdir.specs.Sayings.{said_after_files, said_after_set}
 
--- that a variable is taken away
+-- that a variable is removed
 abbrev gone : Option (Option (List ℕ))
 gone = Some None
 
@@ -26,14 +26,14 @@ gone = Some None
 abbrev Sayings : Type 0
 Sayings = List ℕ → Option (Option (List ℕ))
 
--- the item at a place, and those behind it
+-- the item at a place, and those after it
 cut : {X : Type 0} (items : List X) (i : ℕ) (item : X) → i < length items → item ≡ get_or items i item
     → drop i items ≡ item ∷ drop (i + 1) items
 cut items i item within is =
     let next : suc i ≡ i + 1 = omega arith in
     drop-cons items i item within ∙ ap (λ x. x ∷ drop (suc i) items) (sym is) ∙ ap (λ k. item ∷ drop k items) next
 
--- what is said of a variable after one of this name is changed
+-- what is said of a variable after one with this name is changed
 changed : (name at : List ℕ) (said : Option (Option (List ℕ))) (before after : Sayings) → after at ≡ said
     → ((other : List ℕ) → other ≢ at → after other ≡ before other)
     → after name ≡ (if bytes_eq name at then said else before name)
@@ -44,7 +44,7 @@ changed name at said before after set others =
           sym yes ∙ differ in cc no)
     ] refl
 
--- a name that is taken away, and those behind it
+-- a name that is removed, and those after it
 pub taken_further : (files : List File) (i : ℕ) (file : File) (before after all : Sayings) → i < length files
     → file ≡ get_or files i file
     → after file.name ≡ Some None → ((other : List ℕ) → other ≢ file.name → after other ≡ before other)
@@ -65,7 +65,7 @@ bytes_eq-sym xs ys =
       ] refl
     ] refl
 
--- a variable that is set, and those behind it
+-- a variable that is set, and those after it
 pub set_further : (variables : List Binding) (i : ℕ) (variable : Binding) (before after all : Sayings)
     → i < length variables
     → variable ≡ get_or variables i variable
@@ -98,12 +98,12 @@ taken_away (file ∷ files) name before =
 
 -- All variables
 
--- what is set: a value, where there is one
+-- what is set: a value, if there is one
 abbrev set_or : Option (List ℕ) → Option (Option (List ℕ)) → Option (Option (List ℕ))
 set_or (Some value) before = Some (Some value)
 set_or None before = before
 
--- names that stand no more are not set
+-- names that are no longer in the list are not set
 not_set : (at name : List ℕ) (variables : List Binding) (before : Option (Option (List ℕ))) → bytes_eq at name ≡ true
     → AllByRecursion (λ other. bytes_eq at other.name ≡ false) variables → said_after_set variables name before ≡ before
 not_set at name [] before same apart = refl
@@ -132,7 +132,7 @@ set_or-taken (Some value) taken = refl
 set_or-taken None true = refl
 set_or-taken None false = refl
 
--- A command that took away the names of files and then set these variables says this of each.
+-- A command that removed the names of files, and then set these variables, says this of each variable.
 pub said_whole : (files : List File) (variables : List Binding) (name : List ℕ) → HasDistinctNames variables
     → said_after_set variables name (said_after_files files name None)
     ≡ said_of (value_of variables name) (has_file files name)
@@ -143,7 +143,7 @@ said_whole files variables name distinct =
 
 -- Faults
 
--- What is reported where there is no memory is the first fault, where there is one.
+-- If memory is lacking, the first fault is reported, if there is one.
 starved_at : (files : List File) (o : Option EnvFault) → first_fault files ≡ o → IsFirstFault (starved o) files
 starved_at files None is = is
 starved_at files (Some (why.NameHasEquals place)) is = is
@@ -164,7 +164,7 @@ starved_by (Some why.OutOfMemory) = tt
 pub starved_before : (reported : EnvdirFault) (o : Option EnvFault) → reported ≡ starved o → IsBeforeStart reported
 starved_before reported o is = subst (λ (w : EnvdirFault). IsBeforeStart w) (sym is) (starved_by o)
 
--- Memory is wanted only where no file has a fault.
+-- Memory is reported as lacking only if no file has a fault.
 pub wanted : {T : Type 0} (files : List File) (r : Result T EnvFault)
     → MatchOption (first_fault files) (IsOkUnless r why.OutOfMemory) (λ f. IsErrOf r f) → r ≡ Err why.OutOfMemory
     → first_fault files ≡ None
@@ -177,7 +177,7 @@ wanted {T} files r refuses is =
           absurd (never_memory files (bad ∙ ap {B = Option EnvFault} (λ (w : EnvFault). Some w) (sym same)))
     ] refl refuses
 
--- a fault of a start is the first of files that have none
+-- a fault of a start comes first if the files have none
 pub start_first : (files : List File) (reported : EnvdirFault) → IsOfStart reported → first_fault files ≡ None
     → IsFirstFault reported files
 start_first files fault.OutOfMemory of_start good = good

@@ -12,7 +12,7 @@ one-visible name shows = ap (λ (b : Bool). if b then name ∷ [] else []) shows
 pub none-visible : (name : List ℕ) → is_visible name ≡ false → filter is_visible (name ∷ []) ≡ []
 none-visible name hides = ap (λ (b : Bool). if b then name ∷ [] else []) hides
 
--- the names of entries and of one more
+-- the names of entries, and of one more
 pub listed-more : {E : Type 0} (name_of : E → List ℕ) (entries : List E) (entry : E) (name : List ℕ)
     (old new : List (List ℕ)) → old ≡ filter is_visible (map name_of entries) → name ≡ name_of entry
     → new ≡ old ++ filter is_visible (name ∷ []) → new ≡ filter is_visible (map name_of (entries ++ entry ∷ []))

@@ -78,7 +78,7 @@ after_removal (variable ∷ env) gone name =
           ] refl
     ] refl
 
--- a variable that stands last
+-- a variable that is last
 found_behind : (env : List Binding) (last : Binding) (name : List ℕ)
     → value_of (env ++ last ∷ []) name ≡ or_else (value_of env name) (value_of (last ∷ []) name)
 found_behind [] last name = refl
@@ -104,7 +104,7 @@ after_setting env set name =
       | false ↦ or_empty (value_of env name)
     ]
 
--- names that stand apart from one
+-- names that are different from one name
 not_there : (set : List Binding) (at name : List ℕ) → bytes_eq at name ≡ true
     → AllByRecursion (λ other. bytes_eq at other.name ≡ false) set → value_of set name ≡ None
 not_there [] at name is apart = refl
@@ -118,7 +118,7 @@ not_there (variable ∷ set) at name is apart =
       | false ↦ λ _. not_there set at name is apart.1
     ] refl
 
--- the value of a variable after some are set, no two of one name
+-- the value of a variable after some are set, with no name twice
 after_settings : (set env : List Binding) (name : List ℕ) → HasDistinctNames set
     → value_of (fold (λ before variable. put before variable.name variable.value) env set) name
     ≡ or_else (value_of set name) (value_of env name)
@@ -136,17 +136,17 @@ after_settings (variable ∷ set) env name distinct =
       | false ↦ λ _. refl
     ] refl
 
--- The names that are seen to
+-- The names that the commands handle
 
 -- the names of the files that are not hidden
 abbrev names : List File → List (List ℕ)
 names files = map (λ file. file.name) (filter (λ file. not (is_hidden file)) files)
 
--- those that a shell changes
+-- the names that a shell changes
 abbrev lines_of : List File → List (List ℕ)
 lines_of files = own_names ++ filter is_plain (names files)
 
--- whether a name is for `env` to take away
+-- whether `env` must remove a name
 abbrev goes : (target : List Binding) → List ℕ → Bool
 goes target name = not (is_plain name) && not (is_some (value_of target name))
 
@@ -183,7 +183,7 @@ bound_value env at name (Some value) =
       | false ↦ refl
     ]
 
--- the value after changes: what it is to be, for those that are changed
+-- the value after changes: the new value for the names that are changed
 changed_value : (ns : List (List ℕ)) (target own : List Binding) (name : List ℕ)
     → value_of (changed own (changes_of target ns)) name
     ≡ (if list_any (bytes_eq name) ns then value_of target name else value_of own name)
@@ -208,7 +208,7 @@ changed_value (at ∷ ns) target own name =
       | false ↦ λ _. refl
     ] refl
 
--- the value after variables are taken away
+-- the value after variables are removed
 removed_value : (removed : List (List ℕ)) (env : List Binding) (name : List ℕ)
     → value_of (fold without env removed) name
     ≡ (if list_any (bytes_eq name) removed then None else value_of env name)
@@ -282,7 +282,7 @@ apart_filter test (variable ∷ env) distinct =
       | false ↦ apart_filter test env distinct.1
     ]
 
--- what all of it makes of a variable
+-- what all commands together make of a variable
 made_value : (files : List File) (target own : List Binding) (name : List ℕ) → HasDistinctNames target
     → value_of (made_of (changed own (changes_of target (lines_of files))) (removed_of target files)
     (set_of files target)) name
@@ -303,7 +303,7 @@ made_value files target own name distinct =
     ∙ ap (λ (value : Value). if goes target name && names_file files name then None else value)
     (changed_value (lines_of files) target own name))
 
--- That is what the files make of it
+-- The files make the same of it
 
 neither : (a b : Bool) → (a || b) ≡ false → (a ≡ false) × (b ≡ false)
 neither true b h = cc h
@@ -350,7 +350,7 @@ Made files before own name =
     else value_of own name))
     ≡ value_of target name
 
--- of a name that a shell sets as it is asked to
+-- a name that a shell sets as it is asked to
 made_plain : LastFileDecides → (files : List File) (before own : List Binding) (name : List ℕ) → HandsOn before own
     → is_plain name ≡ true → Made files before own name
 made_plain decides files before own name hands plain =
@@ -367,7 +367,7 @@ made_plain decides files before own name hands plain =
           ] refl
     ] refl)
 
--- of any other that a file names
+-- any other name that a file has
 made_file : (files : List File) (before own : List Binding) (name : List ℕ) → is_plain name ≡ false
     → names_file files name ≡ true → Made files before own name
 made_file files before own name odd has =
@@ -377,7 +377,7 @@ made_file files before own name odd has =
       | None ↦ refl
     ])
 
--- of any other that was there
+-- any other name that was there before
 made_kept : LastFileDecides → (files : List File) (before own : List Binding) (name : List ℕ) → is_plain name ≡ false
     → names_file files name ≡ false → (is_some (value_of before name) && not (is_left name)) ≡ true
     → Made files before own name
@@ -494,7 +494,7 @@ read_by_env removed set program =
 not_empty : (byte : ℕ) (bytes : List ℕ) → (length (byte ∷ bytes) == 0) ≡ false
 not_empty byte bytes = ne_eqb (length (byte ∷ bytes)) 0 (λ is. cc is)
 
--- a text that has words for `env`
+-- a text with words for `env`
 read_start_by : (removals settings after : List ℕ) (commands : List (List (List ℕ)))
     → are_none removals settings ≡ false
     → commands_from (Between []) (env_text removals settings ++ after) ≡ Some commands
@@ -530,7 +530,7 @@ plain_is_name name plain =
       | false ↦ λ never. never
     ] plain
 
--- each name that passes a test passes what follows from it
+-- for each name that passes a test, what follows from the test is true
 all_filtered : (P : List ℕ → Type 0) → ((n : List ℕ) → is_plain n ≡ true → P n) → (ns : List (List ℕ))
     → AllByRecursion P (filter is_plain ns)
 all_filtered P so [] = tt
@@ -638,7 +638,7 @@ reads_as_script decides files before target program text is distinct written = r
       (makes_it decides files before own name hands settled);
 }
 
--- so where there was memory for it
+-- the same, if there was memory for the text
 pub if_written : {T E : Type 0} (r : Result T E) (items : T → List ℕ) → LastFileDecides
     → (files : List File) (target : List Binding) (program : List (List ℕ)) → HasDistinctNames target
     → IfOk r (λ text. items text ≡ script_text target files program)

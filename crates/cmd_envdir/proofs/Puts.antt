@@ -1,4 +1,4 @@
--- An entry of an environment, by where its first `=` stands.
+-- An entry of an environment, by the place of its first `=`.
 use Rattle.std.proofs.Common.{◌≡◌, ℕ, ◌<◌, ◌==◌, true, false, List, length, refl, sym, ap, ◌∙◌, arith, subst}
 use Rattle.std.proofs.Common.{Bor, Some, min}
 use Rattle.std.specs.Prelude.{Result, Ok, Err, OnOk}
@@ -12,7 +12,7 @@ use Rattle.std.proofs.lemmas.Str.{IsUtf8-from_is_utf8, is_utf8-from_IsUtf8}
 use Rattle.env_title.specs.Env.{Binding, put}
 use Rattle.cmd_envdir.specs.System.{entry_put, equals_in}
 
--- one that is no text
+-- an entry that is not text
 pub not_text : (variables : List Binding) (entry : List ℕ) → (IsUtf8 entry → ⊥) → variables ≡ entry_put variables entry
 not_text variables entry none =
     elim (is_utf8 entry) as (λ b. is_utf8 entry ≡ b → variables
@@ -22,7 +22,7 @@ not_text variables entry none =
       | false ↦ λ _. refl
     ] refl
 
--- one with a name, a `=` and a value
+-- an entry with a name, a `=` and a value
 pub named : (variables : List Binding) (entry name value : List ℕ) → IsUtf8 entry → 0 < equals_in entry
     → equals_in entry < length entry → name ≡ before_first (λ x. x == 61) entry
     → value ≡ after_first (λ x. x == 61) entry → put variables name value ≡ entry_put variables entry
@@ -35,12 +35,12 @@ named variables entry name value text some within name_is value_is =
       value_is,
     ) refl
 
--- what holds where a call succeeds
+-- what is true if a call succeeds
 pub on_ok_map : {A E P Q : Type 0} (r : Result A E) → (P → Q) → OnOk r P → OnOk r Q
 on_ok_map (Ok a) f p = f p
 on_ok_map (Err e) f p = tt
 
--- one that is split at its first `=` into a name and a value
+-- an entry that is split at its first `=` into a name and a value
 pub split : (variables : List Binding) (text entry n v : List ℕ) (name value : Bor (List ℕ)) → text ≡ entry
     → IsUtf8 entry
     → IsSplitOnceResult 61 text (Some (name, value)) → 0 < length name.now → n ≡ name.now → v ≡ value.now

@@ -1,4 +1,4 @@
--- How `envdir` ends, and what it reports.
+-- How `envdir` exits, and what it reports.
 use Rattle.std.specs.Prelude.{◌≡◌, ◌≢◌, ◌⊎◌, ℕ, bytes_eq, MatchBool, List, [], ◌∷◌, ◌++◌, codes, map}
 use Rattle.std.specs.Prelude.{slice_get, Option, Some, None}
 use Rattle.std.specs.Option.{option_map_or}
@@ -21,11 +21,11 @@ use Rattle.cmd_envdir.specs.declared.fault.EnvdirFault.TheVariants as fault
 
 -- Faults
 
--- what is reported if it is out of memory
+-- the report of a lack of memory
 abbrev pub memory_report : List ℕ
 memory_report = codes "envdir: OutOfMemory" ++ 10 ∷ []
 
--- what is reported of a fault, by the word for the child, and the name of the file that is refused
+-- the report of a fault, with the word for the child, and the name of the file that is refused
 abbrev pub envdir_report : (child name : List ℕ) → EnvdirFault → List ℕ
 envdir_report child name (fault.NameHasEquals place) =
     codes "envdir: " ++ (name ++ (codes ": NameHasEquals" ++ 10 ∷ []))
@@ -33,31 +33,32 @@ envdir_report child name (fault.NotText place) = codes "envdir: " ++ (name ++ (c
 envdir_report child name (fault.NotRun cause) = codes "envdir: unable to run " ++ (child ++ cause_note cause)
 envdir_report child name fault.OutOfMemory = memory_report
 
--- what is reported of a path that can't be read
+-- the report of a path that can't be read
 abbrev pub unread_report : (path : List ℕ) → Unread → List ℕ
 unread_report path unread = codes "envdir: unable to read " ++ (path ++ cause_note unread.cause)
 
--- A folder is not read, and it is reported that it is out of memory, or which path can't be read, and why.
+-- A folder is not read. The report is a lack of memory, or which path can't be read, and why.
 abbrev pub ReportsUnread : (dir : List ℕ) → Unread → (faults reports : Device) → Type 0
 ReportsUnread dir unread faults reports =
     ((unread.cause ≡ cause.NoMemory) × Reports faults reports memory_report)
     ⊎ ((unread.cause ≢ cause.NoMemory) × Reports faults reports (unread_report (unread_path dir unread.file) unread))
 
--- the name of the file that a fault is of, empty if it is of none
+-- the name of the file that a fault comes from, or an empty name if it comes from none
 abbrev pub name_of : EnvdirFault → List File → List ℕ
 name_of (fault.NameHasEquals place) files = option_map_or (λ file. file.name) (slice_get files place) []
 name_of (fault.NotText place) files = option_map_or (λ file. file.name) (slice_get files place) []
 name_of (fault.NotRun cause) files = []
 name_of fault.OutOfMemory files = []
 
--- A fault that is of a file is the first fault of these files. Another one is reported only if no file has a fault.
+-- A fault that comes from a file is the first fault of these files. Any other fault is reported only if no file has a
+-- fault.
 abbrev pub IsFirstFault : EnvdirFault → List File → Type 0
 IsFirstFault (fault.NameHasEquals place) files = first_fault files ≡ Some (why.NameHasEquals place)
 IsFirstFault (fault.NotText place) files = first_fault files ≡ Some (why.NotText place)
 IsFirstFault (fault.NotRun cause) files = first_fault files ≡ None
 IsFirstFault fault.OutOfMemory files = first_fault files ≡ None
 
--- what is reported if it is out of memory: the first fault of the files, if they have one
+-- the fault if memory is lacking: the first fault of the files, if they have one
 abbrev pub starved : Option EnvFault → EnvdirFault
 starved None = fault.OutOfMemory
 starved (Some (why.NameHasEquals place)) = fault.NameHasEquals place
@@ -66,7 +67,7 @@ starved (Some why.OutOfMemory) = fault.OutOfMemory
 
 -- Ends
 
--- This is the environment that files, which can be applied, make of the variables of the process.
+-- This is the environment that files make of the variables of the process. The files can be applied.
 pub record IsChangedBy (files : List File) (system : SystemState) (after : List Binding) : Type 0 where
   pub variables : List Binding
   pub variables_are : IsKnown system.variables variables
@@ -81,20 +82,20 @@ pub record RunsChild (system : SystemState) (past now : Option (List Launch)) (c
   pub good : first_fault files ≡ None
   pub one : StartsOne past now child files (env_after files variables) status
 
--- It could not be started.
+-- The child could not be started.
 pub record RunsNot (system : SystemState) (past now : Option (List Launch)) (child : Child) (files : List File)
     (cause : EnvdirFault) : Type 0 where
   pub variables : List Binding
   pub variables_are : IsKnown system.variables variables
   pub fails : FailsToStart past now child files (env_after files variables) cause
 
--- There is no child for this cause: no command was handed over, or it failed.
+-- There is no child, for this cause: no command was handed over, or the command failed.
 abbrev pub HasNoChild : (system : SystemState) (past now : Option (List Launch)) (child : Child) (files : List File)
     (cause : EnvdirFault) → Type 0
 HasNoChild system past now child files cause =
     ((now ≡ past) × IsBeforeStart cause) ⊎ RunsNot system past now child files cause
 
--- The files of the folder, in the byte order of their names, made the environment of a child; nothing is reported.
+-- The files of the folder, in the byte order of their names, made the environment of a child. Nothing is reported.
 pub record EndsWithChild (system : SystemState) (dir : List ℕ) (child : Child) (status : ℕ)
     (past now : Option (List Launch)) (faults reports : Device) : Type 0 where
   pub files : List File
@@ -103,7 +104,7 @@ pub record EndsWithChild (system : SystemState) (dir : List ℕ) (child : Child)
   pub runs : RunsChild system past now child files status
   pub silent : reports ≡ faults
 
--- The folder was not read, and it is reported why.
+-- The folder was not read, and the reason is reported.
 pub record LacksFolder (system : SystemState) (dir : List ℕ) (status : ℕ) (faults reports : Device) : Type 0 where
   pub unread : Unread
   pub unread_is : IsKnown (system.folder_fault dir) unread
@@ -111,7 +112,7 @@ pub record LacksFolder (system : SystemState) (dir : List ℕ) (status : ℕ) (f
   pub status_is : status ≡ 111
   pub reported_unread : ReportsUnread dir unread faults reports
 
--- The folder was read, and it is reported why its files do nothing.
+-- The folder was read. The report says why its files have no effect.
 pub record ReportsWhy (system : SystemState) (dir program : List ℕ) (cause : EnvdirFault) (files : List File)
     (status : ℕ)
     (faults reports : Device) : Type 0 where
@@ -121,7 +122,7 @@ pub record ReportsWhy (system : SystemState) (dir program : List ℕ) (cause : E
   pub status_is : status ≡ 111
   pub reported_why : Reports faults reports (envdir_report program (name_of cause files) cause)
 
--- The folder was read, there was no child, and it is reported why.
+-- The folder was read, there was no child, and the reason is reported.
 pub record EndsWithout (system : SystemState) (dir : List ℕ) (child : Child) (status : ℕ)
     (past now : Option (List Launch)) (faults reports : Device) : Type 0 where
   pub cause : EnvdirFault
@@ -137,11 +138,12 @@ ChildEnds system dir child status past now faults reports =
     ⊎ (EndsWithout system dir child status past now faults reports
     ⊎ ((now ≡ past) × LacksFolder system dir status faults reports))
 
--- what is reported of a writer that failed
+-- the report of a writer that failed
 abbrev pub unwritten_report : (writer : Device) → List ℕ
 unwritten_report writer = device_report (codes "envdir: ") (codes "write fault") writer
 
--- A text was written, and nothing is reported; or a front of it, and it is reported that the writer failed, and why.
+-- Either a text was written, and nothing is reported; or a prefix of it was written, and the report says that the
+-- writer failed, and why.
 pub record EndsWriting (text : List ℕ) (status : ℕ) (old new : Outputs) : Type 0 where
   pub either : (status ≡ 0) ⊎ (status ≡ 111)
   pub wrote : status ≡ 0 → Wrote old.writer new.writer text × Works old.writer new.writer
@@ -149,19 +151,20 @@ pub record EndsWriting (text : List ℕ) (status : ℕ) (old new : Outputs) : Ty
   pub failed : status ≡ 111 → WroteFront old.writer new.writer text × Fails old.writer new.writer
   pub reported : status ≡ 111 → Reports old.faults new.faults (unwritten_report new.writer)
 
--- the variables that a shell was given: those in the file at a path, if there is one, else those of the process
+-- the variables that a shell was given: those in the file at a path, if there is a path, and those of the process if
+-- not
 abbrev pub given_by : SystemState → (path : Option (List ℕ)) → Option (List Binding)
 given_by system (Some path) = system.given path
 given_by system None = system.variables
 
--- A shell that was given those variables reads this text as the commands of these files and words.
+-- A shell that was given those variables reads this text as the commands for these files and words.
 pub record IsScriptFor (system : SystemState) (path : Option (List ℕ)) (files : List File) (program : List (List ℕ))
     (text : List ℕ) : Type 0 where
   pub variables : List Binding
   pub variables_are : IsKnown (given_by system path) variables
   pub reads : ReadsAsScriptOf files variables program text
 
--- The commands were written that make the environment of the files of the folder, and run these words.
+-- The commands were written that make the environment of the files in the folder, and run these words.
 pub record WritesScript (system : SystemState) (dir : List ℕ) (path : Option (List ℕ)) (program : List (List ℕ))
     (status : ℕ) (old new : Outputs) : Type 0 where
   pub files : List File
@@ -171,7 +174,7 @@ pub record WritesScript (system : SystemState) (dir : List ℕ) (path : Option (
   pub is : IsScriptFor system path files program text
   pub writes : EndsWriting text status old new
 
--- The folder was read, there are no commands, and it is reported why.
+-- The folder was read, there are no commands, and the reason is reported.
 pub record HasNoScript (system : SystemState) (dir : List ℕ) (status : ℕ) (old new : Outputs) : Type 0 where
   pub cause : EnvdirFault
   pub files : List File
@@ -187,21 +190,21 @@ ScriptEnds system dir path program status old new =
     ⊎ (HasNoScript system dir status old new
     ⊎ ((new.writer ≡ old.writer) × LacksFolder system dir status old.faults new.faults))
 
--- Words are wrong: nothing is written, and the usage is reported.
+-- The words are wrong: nothing is written, and the usage is reported.
 pub record ReportsUsage (status : ℕ) (old new : Outputs) : Type 0 where
   pub unwritten : new.writer ≡ old.writer
   pub status_is : status ≡ 100
   pub reported : Reports old.faults new.faults (usage_text command.Envdir)
 
--- After `--shell` there is a folder; there may be a path, and a program with its words.
+-- After `--shell` there is a folder. A path may follow, and a program with its words.
 abbrev pub AskedEnds : (system : SystemState) (words : List (List ℕ)) (status : ℕ) (old new : Outputs) → Type 0
 AskedEnds system [] status old new = ReportsUsage status old new
 AskedEnds system (dir ∷ []) status old new = ScriptEnds system dir None [] status old new
 AskedEnds system (dir ∷ path ∷ program) status old new = ScriptEnds system dir (Some path) program status old new
 
--- The words of `envdir` are a folder, a program and arguments; or `--shell` and what it takes.
+-- The words of `envdir` are a folder, a program and arguments; or `--shell` and the words that it takes.
 
--- What it starts: the program. Other words hand over no command.
+-- What `envdir` starts: the program. For any other words it hands over no command.
 abbrev pub EnvdirStarts : (system : SystemState) (words : List (List ℕ)) (status : ℕ) (past now : Option (List Launch))
     (faults reports : Device) → Type 0
 EnvdirStarts system [] status past now faults reports = now ≡ past
@@ -210,7 +213,7 @@ EnvdirStarts system (word ∷ second ∷ more) status past now faults reports =
     MatchBool (bytes_eq word (codes "--shell")) (now ≡ past)
     (ChildEnds system word (child second more) status past now faults reports)
 
--- What it writes: the commands for the folder, or the usage. If a program is asked for, it writes nothing.
+-- What `envdir` writes: the commands for the folder, or the usage. If a program is asked for, it writes nothing.
 abbrev pub EnvdirWrites : (system : SystemState) (words : List (List ℕ)) (status : ℕ) (old new : Outputs) → Type 0
 EnvdirWrites system [] status old new = ReportsUsage status old new
 EnvdirWrites system (word ∷ []) status old new = ReportsUsage status old new

@@ -17,12 +17,12 @@ abbrev pub ListsVisible : {S E F : Type 0} (steps : S → Option (Result E F) �
 ListsVisible {E = E} steps name_of s names =
     (entries : List E) × Drains steps s (map Ok entries) × (names ≡ filter is_visible (map name_of entries))
 
--- Entries came that could be read, and then one that could not, of this fault.
+-- Entries came that could be read, and then one that could not, with this fault.
 abbrev pub EndsAtFault : {S E F : Type 0} (steps : S → Option (Result E F) → S → Type 0) (s : S) (fault : F) → Type 0
 EndsAtFault {S = S} {E = E} steps s fault =
     (entries : List E) × (u : S) × YieldsThen steps s (map Ok entries) (Some (Err fault)) u
 
--- Why names are not listed: memory is wanted, or an entry can't be read, the first of which says this fault.
+-- Why names are not listed: memory was lacking, or an entry can't be read. The first such entry has this fault.
 abbrev pub IsWhyUnlisted : {S E : Type 0} (steps : S → Option (Result E Error) → S → Type 0) (s : S) (fault : Error)
     → Type 0
 IsWhyUnlisted steps s fault = (error_kind fault ≡ OutOfMemory) ⊎ EndsAtFault steps s fault

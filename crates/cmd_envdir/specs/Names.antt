@@ -4,7 +4,7 @@ use Rattle.std.specs.Prelude.{ℕ, nat_eq, nat_le, ◌==◌, ◌&&◌, ◌||◌,
 use Rattle.std.specs.Prelude.{slice_index}
 use Rattle.std.specs.List.{list_all, list_any, starts_with}
 
--- a letter of ASCII, or an underscore
+-- whether a byte is an ASCII letter or an underscore
 abbrev pub is_letter : ℕ → Bool
 is_letter byte = (nat_le 65 byte && nat_le byte 90) || ((nat_le 97 byte && nat_le byte 122) || byte == 95)
 
@@ -19,7 +19,7 @@ abbrev pub is_identifier : List ℕ → Bool
 is_identifier name =
     not (length name == 0) && (not (is_digit (slice_index name 0)) && list_all is_letter_or_digit name)
 
--- names that dash or bash sets by itself, or does not let be set
+-- names that dash or bash sets by itself, or does not allow to be set
 abbrev pub reserved : List (List ℕ)
 reserved = (
     codes "PPID" ∷
@@ -44,16 +44,16 @@ reserved = (
 abbrev pub is_reserved : List ℕ → Bool
 is_reserved name = list_any (bytes_eq name) reserved
 
--- such names too, of which a shell may change what it was given, and this is left to it
+-- more names of that kind: a shell may change the value that it was given, and this is left to the shell
 abbrev pub is_left : List ℕ → Bool
 is_left name =
     list_any (bytes_eq name) (codes "_" ∷ codes "SHLVL" ∷ codes "PS1" ∷ codes "PS2" ∷ codes "PS4" ∷ [])
     || starts_with nat_eq name (codes "BASH")
 
--- Whether a shell sets the variable of this name as it is asked to.
+-- Whether a shell sets the variable with this name as it is asked to.
 abbrev pub is_plain : List ℕ → Bool
 is_plain name = is_identifier name && (not (is_reserved name) && not (is_left name))
 
--- names that a shell sets as it begins, and lets be set
+-- names that a shell sets when it begins, and allows to be set
 abbrev pub own_names : List (List ℕ)
 own_names = codes "PWD" ∷ codes "OLDPWD" ∷ codes "IFS" ∷ []

@@ -1,4 +1,4 @@
--- How commands and words are written. Private functions alone speak of it.
+-- How commands and words are written. Only private functions use these definitions.
 use Rattle.std.specs.Prelude.{ℕ, ◌==◌, ◌&&◌, ◌||◌, not, if◌then◌else◌, Bool, List, [], ◌∷◌, ◌++◌, codes, flat_map}
 use Rattle.std.specs.Prelude.{length, Option, Some, None, is_some}
 use Rattle.env_title.specs.Env.{Binding, value_of}
@@ -6,7 +6,7 @@ use Rattle.env_title.specs.Files.{File, is_hidden}
 use Rattle.cmd_envdir.specs.Names.{is_left, is_plain, own_names}
 use Rattle.cmd_envdir.specs.Script.{assignment, names_file}
 
--- a byte within single quotes: one that would end them follows a backslash, outside of them
+-- a byte within single quotes; a byte that would end the quotes comes after a backslash, outside of them
 abbrev pub escaped_byte : ℕ → List ℕ
 escaped_byte byte = if byte == 39 then 39 ∷ 92 ∷ 39 ∷ 39 ∷ [] else byte ∷ []
 
@@ -25,7 +25,7 @@ abbrev pub line_by : (name : List ℕ) → Option (List ℕ) → List ℕ
 line_by name (Some value) = codes "export " ++ (name ++ 61 ∷ quoted value 10)
 line_by name None = codes "unset " ++ (name ++ 10 ∷ [])
 
--- the line that makes of a variable what it is in an environment
+-- the line that gives a variable the value that it has in an environment
 abbrev pub line_of : (target : List Binding) (name : List ℕ) → List ℕ
 line_of target name = line_by name (value_of target name)
 
@@ -35,7 +35,7 @@ file_line target file = if is_hidden file || not (is_plain file.name) then [] el
 abbrev pub lines_text : (target : List Binding) → List File → List ℕ
 lines_text target files = flat_map (line_of target) own_names ++ flat_map (file_line target) files
 
--- whether `env` is to take away the variable of a file
+-- whether `env` must remove the variable of a file
 abbrev pub is_removed : (target : List Binding) → File → Bool
 is_removed target file = not (is_hidden file) && (not (is_plain file.name) && not (is_some (value_of target file.name)))
 
@@ -43,7 +43,7 @@ abbrev pub removed_text : (target : List Binding) → File → List ℕ
 removed_text target file =
     if is_removed target file then word_text (codes "-u") ++ word_text file.name else []
 
--- whether `env` is to set a variable
+-- whether `env` must set a variable
 abbrev pub is_set : List File → (name : List ℕ) → Bool
 is_set files name = not (is_plain name) && (names_file files name || not (is_left name))
 

@@ -1,5 +1,5 @@
--- The commands by which a shell makes the environment of a folder's files for a program that it runs in its own place,
--- and the words by which `env` sets what a shell does not (the page env(1) of the GNU coreutils).
+-- The commands by which a shell makes the environment of a folder's files, for a program that takes the shell's place.
+-- Also the words by which `env` sets what a shell does not (the page env(1) of the GNU coreutils).
 use Rattle.std.specs.Prelude.{◌≡◌, ℕ, ◌||◌, ◌&&◌, not, Bool, true, false, List, [], ◌∷◌, ◌++◌, All, codes, filter}
 use Rattle.std.specs.Prelude.{flat_map, fold, map, bytes_eq, Option, Some, None, is_some}
 use Rattle.std.specs.List.{list_any}
@@ -10,7 +10,7 @@ use Rattle.cmd_envdir.specs.Shell.{shell_commands}
 
 -- The variables that a shell changes
 
--- A variable with its new value, or none if it is taken away.
+-- A variable with its new value, or without one if it is removed.
 pub record Change : Type 0 where
   pub name : List ℕ
   pub value : Option (List ℕ)
@@ -37,21 +37,21 @@ changed own changes = fold (λ env change. bound_by env change.name change.value
 
 -- The variables that `env` changes
 
--- the words that take away a variable
+-- the words that remove a variable
 abbrev pub removal : (name : List ℕ) → List (List ℕ)
 removal name = codes "-u" ∷ name ∷ []
 
--- the words by which `env` takes away the variables of these names, and then sets these
+-- the words by which `env` removes the variables with these names, and then sets these variables
 abbrev pub env_words : (removed : List (List ℕ)) (set : List Binding) → List (List ℕ)
 env_words removed set =
     flat_map removal removed ++ codes "--" ∷ map (λ variable. assignment variable.name variable.value) set
 
--- the variables that it makes of these
+-- the variables that `env` makes of these
 abbrev pub made_of : (env : List Binding) (removed : List (List ℕ)) (set : List Binding) → List Binding
 made_of env removed set =
     fold (λ before variable. put before variable.name variable.value) (fold without env removed) set
 
--- the front of the command that runs a program, by `env` only if that changes something
+-- the first words of the command that runs a program; `env` is used only if it changes something
 abbrev pub start_of : (removed : List (List ℕ)) (set : List Binding) → List (List ℕ)
 start_of [] [] = codes "exec" ∷ []
 start_of (name ∷ removed) set = codes "exec" ∷ codes "/usr/bin/env" ∷ env_words (name ∷ removed) set
@@ -64,21 +64,21 @@ abbrev pub names_file : List File → List ℕ → Bool
 names_file files name =
     list_any (bytes_eq name) (map (λ file. file.name) (filter (λ file. not (is_hidden file)) files))
 
--- Whether the commands see to the value of this variable: that of a name that a shell sets as it is asked to, that of a
--- file, and one that was there, but for those that are left to the shell.
+-- Whether the commands decide the value of this variable. They do if a shell sets it as it is asked to, if a file has
+-- its name, or if it was there before and is not left to the shell.
 abbrev pub is_settled : List File → (before : List Binding) → (name : List ℕ) → Bool
 is_settled files before name =
     is_plain name || (names_file files name || (is_some (value_of before name) && not (is_left name)))
 
--- A shell hands on what it was given: each name that it sets as it is asked to, but for those that it sets by itself.
+-- A shell passes on what it was given: each name that it sets as it is asked to, except those that it sets by itself.
 abbrev pub HandsOn : (before own : List Binding) → Type 0
 HandsOn before own =
     (name : List ℕ) → is_plain name ≡ true → list_any (bytes_eq name) own_names ≡ false
     → value_of own name ≡ value_of before name
 
--- A shell that was given these variables and reads this text runs the program of these words in the environment that
--- the files make of them. The shell changes only what it sets as it is asked to, and no value of such a variable is a
--- word of `env`, which others can read.
+-- A shell that was given these variables and reads this text runs the program in these words, in the environment that
+-- the files make of the variables. The shell changes only what it sets as it is asked to. No value of such a variable
+-- is a word of `env`, which others can read.
 pub record ReadsAsScriptOf (files : List File) (before : List Binding) (program : List (List ℕ)) (text : List ℕ)
     : Type 0 where
   pub changes : List Change

@@ -1,23 +1,23 @@
--- How a shell reads commands (POSIX, Shell Command Language, 2.2, 2.3 and 2.10): their words, of letters, digits, `_`,
--- `-`, `/`, and what is in single quotes or after a backslash; after the first word also `=`. What else may be
--- outside of quotes is not said here.
+-- How a shell reads commands (POSIX, Shell Command Language, 2.2, 2.3 and 2.10), and their words. A word consists of
+-- letters, digits, `_`, `-`, `/`, and what is in single quotes or after a backslash; after the first word also of `=`.
+-- This definition does not cover other bytes outside of quotes.
 use Rattle.std.specs.Prelude.{ℕ, ◌==◌, ◌||◌, if◌then◌else◌, Bool, List, [], ◌∷◌, ◌++◌, length}
 use Rattle.std.specs.Prelude.{Option, Some, None, option_map}
 use Rattle.cmd_envdir.specs.Names.{is_letter_or_digit}
 
--- the place of a shell in a text, after these words of a command: between words, or in a word after these bytes of it;
--- there within single quotes, or after a backslash
+-- the place of a shell in a text, after these words of a command. It is between words, or in a word after these bytes
+-- of it. In a word, it may also be within single quotes or after a backslash.
 pub data Position : Type 0 where
   Between : (words : List (List ℕ)) → Position
   Inside : (words : List (List ℕ)) → (word : List ℕ) → Position
   Quoted : (words : List (List ℕ)) → (word : List ℕ) → Position
   Escaped : (words : List (List ℕ)) → (word : List ℕ) → Position
 
--- whether a byte outside of quotes is one of the word
+-- whether a byte outside of quotes belongs to the word
 abbrev pub is_bare : ℕ → Bool
 is_bare byte = is_letter_or_digit byte || (byte == 45 || byte == 47)
 
--- the commands that a shell reads from there on, the last one as far as the text goes
+-- the commands that a shell reads from that place on; the last one goes as far as the text
 abbrev pub commands_from : Position → List ℕ → Option (List (List (List ℕ)))
 commands_from (Between words) [] = Some (words ∷ [])
 commands_from (Inside words word) [] = Some ((words ++ word ∷ []) ∷ [])

@@ -60,7 +60,7 @@ fn add_arguments<A: Allocator + Clone>(
     Ok(())
 }
 
-/// Removes the variables that files have the names of.
+/// Removes the variables with the names of files.
 fn remove_variables<A: Allocator + Clone>(
     command: &mut Command<A>,
     files: &[EnvFile<'_>],
@@ -93,8 +93,8 @@ fn set_variables<A: Allocator + Clone>(
     Ok(())
 }
 
-/// The command that starts a child in this environment: each variable of it is set, and those that the
-/// files have removed are removed. Any other variable stays as it is.
+/// Returns the command that starts a child in this environment. It sets each variable of the environment, and removes
+/// those that the files have removed. Any other variable stays as it is.
 fn child_command<A: Allocator + Clone>(
     alloc: A,
     program: &Program<'_>,
@@ -111,7 +111,7 @@ fn child_command<A: Allocator + Clone>(
     Ok(command)
 }
 
-/// The status that says how a child ended: its exit status, or 111 if a signal ended it.
+/// Returns the status for how a child ended: its exit status, or 111 if a signal ended it.
 fn child_status(status: ExitStatus) -> u8
     ensures { result ≡ status_of_child (exit_code status) }
 {
@@ -121,7 +121,7 @@ fn child_status(status: ExitStatus) -> u8
     }
 }
 
-/// Why a command could not be started. The system's cause is kept.
+/// Returns why a command could not be started. Keeps the system's cause.
 fn start_fault(error: Error) -> EnvdirFault
     ensures cause { IsCauseOf error result }
     ensures of_start { IsOfStart result }
@@ -132,9 +132,8 @@ fn start_fault(error: Error) -> EnvdirFault
     EnvdirFault::NotRun(Cause::of(&error))
 }
 
-/// Starts a program with arguments, in an environment that files have made, and waits for its end.
-/// Returns its status, or 111 if a signal ended it. The program is sought in the `PATH` of that
-/// environment.
+/// Starts a program with arguments, in an environment that files have made, and waits until it ends. Returns its exit
+/// status, or 111 if a signal ended it. The program is looked up in the `PATH` of that environment.
 pub fn run_child<L: Launcher, A: Allocator + Clone>(
     launcher: &mut L,
     alloc: A,

@@ -36,7 +36,7 @@ use std::alloc::{AllocError, Allocator};
 use std::io::Write;
 use tai_status::{Cause, Output};
 
-/// What is reported if it is out of memory: what is wrong with the first file that can't be applied, if there is one.
+/// Returns the fault to report if memory is lacking: that of the first file that can't be applied, if there is one.
 fn starved(first: Option<EnvFault>) -> EnvdirFault
     ensures { result ≡ starved first }
 {
@@ -47,7 +47,7 @@ fn starved(first: Option<EnvFault>) -> EnvdirFault
     }
 }
 
-/// The environment that files make of one.
+/// Returns the environment that files make of another one.
 fn applied<A: Allocator + Clone>(
     alloc: &A,
     files: &[EnvFile<'_>],
@@ -69,7 +69,7 @@ fn applied<A: Allocator + Clone>(
     }
 }
 
-/// The environment that files make of this one.
+/// Returns the environment that files make of this process's variables.
 fn changed_env<R: EnvSystem, A: Allocator + Clone>(
     rt: &R,
     alloc: &A,
@@ -112,8 +112,8 @@ fn run_with<R: EnvSystem, L: Launcher, A: Allocator + Clone>(
     }
 }
 
-/// The commands by which a shell that was given these variables makes the environment of the files of a folder, and
-/// runs these words.
+/// Returns the commands by which a shell that was given these variables makes the environment of the files of a folder,
+/// and runs these words.
 fn script_over<A: Allocator + Clone>(
     alloc: &A,
     folder: &[FolderFile<A>],
@@ -136,7 +136,7 @@ fn script_over<A: Allocator + Clone>(
     }
 }
 
-/// The variables of this process, or those in the file at a path.
+/// Returns the variables of this process, or those in the file at a path.
 fn variables_of<R: EnvSystem, A: Allocator + Clone>(
     rt: &R,
     alloc: &A,
@@ -151,7 +151,7 @@ fn variables_of<R: EnvSystem, A: Allocator + Clone>(
     }
 }
 
-/// The commands over those variables.
+/// Returns the commands for those variables.
 fn folder_script<R: EnvSystem, A: Allocator + Clone>(
     rt: &R,
     alloc: &A,
@@ -171,7 +171,7 @@ fn folder_script<R: EnvSystem, A: Allocator + Clone>(
     }
 }
 
-/// The name of the file that is refused, empty if none is.
+/// Returns the name of the file that is refused, or an empty name if none is.
 fn refused_name<A: Allocator>(fault: EnvdirFault, folder: &[FolderFile<A>]) -> &str
     ensures { result.now ≡ name_of fault folder.now }
 {
@@ -181,7 +181,7 @@ fn refused_name<A: Allocator>(fault: EnvdirFault, folder: &[FolderFile<A>]) -> &
     }
 }
 
-/// Reports that it is out of memory, and returns the status of that.
+/// Reports a lack of memory, and returns the exit status for that.
 fn report_memory<E: Write>(faults: &mut Output<E>) -> u8
     ensures status { result ≡ 111 }
     ensures reported { Reports faults.old faults.new memory_report }
@@ -189,7 +189,7 @@ fn report_memory<E: Write>(faults: &mut Output<E>) -> u8
     report(faults, b"envdir: OutOfMemory\n", TROUBLE)
 }
 
-/// Reports what can't be done with something of this name, and why, and returns the status of that.
+/// Reports what can't be done with something that has this name, and why. Returns the exit status for that.
 fn report_unable<E: Write>(what: &[u8], name: &str, cause: Cause, faults: &mut Output<E>) -> u8
     ensures status { result ≡ 111 }
     ensures reported { Reports faults.old faults.new (what.now ++ (name.now ++ cause_note cause)) }
@@ -198,7 +198,7 @@ fn report_unable<E: Write>(what: &[u8], name: &str, cause: Cause, faults: &mut O
     report_parts(faults, what, name.as_bytes(), note.as_bytes(), TROUBLE)
 }
 
-/// Reports why a folder is not read, and returns the status of that.
+/// Reports why a folder is not read, and returns the exit status for that.
 fn report_unread<A: Allocator, E: Write>(
     unread: &FolderFault<A>,
     dir: &str,
@@ -214,7 +214,7 @@ fn report_unread<A: Allocator, E: Write>(
     report_unable(b"envdir: unable to read ", unread.path(dir), cause, faults)
 }
 
-/// Reports why the files of a folder do nothing, and returns the status of that.
+/// Reports why the files of a folder have no effect, and returns the exit status for that.
 fn report_fault<E: Write>(
     fault: EnvdirFault,
     program: &str,
@@ -248,8 +248,8 @@ fn report_fault<E: Write>(
     }
 }
 
-/// Runs a program in the environment that the files of a folder make of this one, and returns its status; or says why
-/// there is none.
+/// Runs a program in the environment that the files of a folder make of this one, and returns its status; or reports
+/// why there is no such environment.
 fn run_in_folder<R: EnvSystem, L: Launcher, A: Allocator + Clone, E: Write>(
     rt: &R,
     launcher: &mut L,
@@ -274,7 +274,7 @@ fn run_in_folder<R: EnvSystem, L: Launcher, A: Allocator + Clone, E: Write>(
     }
 }
 
-/// Reports that the writer failed, and why, and returns the status of that.
+/// Reports that the writer failed, and why, and returns the exit status for that.
 fn report_unwritten<W: Write, E: Write>(writer: &Output<W>, faults: &mut Output<E>) -> u8
     ensures status { result ≡ 111 }
     ensures reported { Reports faults.old faults.new (unwritten_report writer.now) }
@@ -282,7 +282,7 @@ fn report_unwritten<W: Write, E: Write>(writer: &Output<W>, faults: &mut Output<
     report_device(faults, b"envdir: ", b"write fault", writer.cause())
 }
 
-/// Writes a text, and returns the status of that.
+/// Writes a text, and returns the exit status for that.
 fn write_text<W: Write, E: Write>(text: &[u8], writer: &mut Output<W>, faults: &mut Output<E>) -> u8
     ensures ends { EndsWriting text.now result (outputs writer.old faults.old) (outputs writer.new faults.new) }
 {
@@ -336,17 +336,18 @@ fn write_asked<R: EnvSystem, A: Allocator + Clone, W: Write, E: Write>(
     }
 }
 
-/// The command `envdir`: starts the program of its second word, with the words after it, in an
-/// environment that the files of the folder of its first word have changed, and waits for its end
-/// (<https://cr.yp.to/daemontools/envdir.html>). The program is sought in the changed `PATH`. Returns the
-/// status of the child, 111 if a signal ended it; 100 for less than two words; 111 if the folder
-/// can't be read or applied, if the child can't be started, and if it is out of memory.
+/// The command `envdir` (<https://cr.yp.to/daemontools/envdir.html>): starts the program in its second word, with the
+/// words after it, and waits until it ends. The files of the folder in the first word have changed the program's
+/// environment. The program is looked up in the changed `PATH`.
 ///
-/// `--shell` and a folder: writes the commands by which a shell makes that environment of its own variables, and the
-/// start of the command that runs a program in its place. A third word is the path of the variables that the shell
-/// itself was given, /proc/PID/environ: those that a shell drops or changes are set again. Words after it are the
-/// program and its arguments. Starts nothing. Returns 0; 111 for those faults, and for one of the writer; 100 if
-/// there is no folder.
+/// Returns the status of the child, or 111 if a signal ended it. Returns 100 for less than two words. Returns 111 if
+/// the folder can't be read or applied, if the child can't be started, and if it is out of memory.
+///
+/// With `--shell` and a folder, it starts nothing. It writes the commands by which a shell makes that environment of
+/// its own variables, and the first words of the command that runs a program in the shell's place. A third word is the
+/// path of the variables that the shell itself was given, /proc/PID/environ: those that a shell drops or changes are
+/// set again. Words after it are the program and its arguments. Returns 0; 111 for the faults above, and if the writer
+/// fails; 100 if there is no folder.
 pub fn run_envdir<R: EnvSystem, L: Launcher, A: Allocator + Clone, W: Write, E: Write>(
     rt: &R,
     launcher: &mut L,

@@ -9,12 +9,12 @@ use std::io::{Error, ErrorKind};
 use std::marker::Model;
 use tai_status::Cause;
 
-/// Why the files of a folder do nothing.
+/// Why the files of a folder have no effect.
 #[derive(Clone, Copy, Debug, PartialEq, Eq)]
 pub enum EnvdirFault {
-    /// The name of the file at this place has a `=`.
+    /// The name of the file at this place contains `=`.
     NameHasEquals(usize),
-    /// The value of the file at this place is not text.
+    /// The value of the file at this place is not valid text.
     NotText(usize),
     /// The child can't be started.
     NotRun(Cause),
@@ -24,9 +24,9 @@ pub enum EnvdirFault {
 /// Why a folder is not read.
 #[derive(Drop)]
 pub struct FolderFault<A: Allocator = Global> {
-    /// The path of the file that can't be read, or none if it is the folder.
+    /// The path of the file that can't be read, or none if it is the folder itself.
     file: Option<String<A>>,
-    /// That it is out of memory, or why the system refused the read.
+    /// Why the system refused the read, or a lack of memory.
     cause: Cause,
 }
 
@@ -43,7 +43,7 @@ impl<A: Allocator> FolderFault<A> {
     ghost use Rattle.std.specs.Prelude.{◌≡◌, Some, string_bytes};
     ghost use Rattle.cmd_envdir.specs.System.{unread_path};
 
-    /// A file at this path can't be read.
+    /// Returns the fault that a file at this path can't be read.
     pub fn of_file(path: String<A>, cause: Cause) -> FolderFault<A>
         ensures file { result.file ≡ Some (string_bytes path) }
         ensures cause { result.cause ≡ cause }
@@ -54,14 +54,14 @@ impl<A: Allocator> FolderFault<A> {
         }
     }
 
-    /// Its cause.
+    /// Returns the cause of the fault.
     pub fn cause(&self) -> Cause
         ensures { result ≡ self.now.cause }
     {
         self.cause
     }
 
-    /// The path that can't be read, in the folder of this path or the folder itself.
+    /// Returns the path that can't be read: one in the folder at this path, or the folder itself.
     pub fn path<'a>(&'a self, dir: &'a str) -> &'a str
         ensures { result.now ≡ unread_path dir.now self.now.file }
     {
@@ -72,7 +72,7 @@ impl<A: Allocator> FolderFault<A> {
     }
 }
 
-/// The cause of a fault of the system. That it is out of memory goes before any other.
+/// Returns the cause of a fault of the system. A lack of memory takes precedence over any other cause.
 pub fn cause_in(error: &Error) -> Cause
     ensures memory { error_kind error.now ≡ OutOfMemory → result ≡ Cause.NoMemory }
     ensures other { error_kind error.now ≢ OutOfMemory

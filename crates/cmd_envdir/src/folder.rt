@@ -35,7 +35,7 @@ impl<A: Allocator> Model for FolderFile<A> {
     ghost view = { λ file. record { name = string_bytes file.name; bytes = file.bytes.items } };
 }
 
-/// The files of a folder on this system, as `EnvSystem` says.
+/// Returns the files of a folder on this system, as `EnvSystem` says.
 pub fn folder_files<R: Files + FileSource, A: Allocator + Clone>(
     rt: &R,
     alloc: &A,
@@ -67,7 +67,7 @@ fn push_file<A: Allocator>(
     Ok(())
 }
 
-/// The names in a folder that do not begin with a dot, in byte order.
+/// Returns the names in a folder that do not begin with a dot, in byte order.
 fn visible_names<R: Files, A: Allocator + Clone>(
     rt: &R,
     alloc: &A,
@@ -80,7 +80,7 @@ fn visible_names<R: Files, A: Allocator + Clone>(
     Ok(names)
 }
 
-/// Whether a name does not begin with a dot.
+/// Returns whether a name does not begin with a dot.
 fn is_visible(name: &str) -> bool
     ensures { result ≡ is_visible name.now }
 {
@@ -102,8 +102,8 @@ fn push_visible<A: Allocator + Clone>(
     Ok(())
 }
 
-/// The names of entries that do not begin with a dot, in order. The first entry that can't be read ends this with its
-/// fault.
+/// Returns the names of entries that do not begin with a dot, in order. The first entry that can't be read ends this
+/// with its fault.
 fn names_in<R: Files + Drop, B: Allocator, A: Allocator + Clone, I>(
     alloc: &A,
     entries: I,
@@ -124,7 +124,7 @@ where
     Ok(names)
 }
 
-/// The path of a name in a folder.
+/// Returns the path of a name in a folder.
 fn path_in<A: Allocator + Clone>(alloc: &A, dir: &str, name: &str) -> Result<String<A>, AllocError>
     ensures { IfOk result (λ path. string_bytes path ≡ dir.now ++ 47 ∷ name.now) }
 {
@@ -137,7 +137,7 @@ fn path_in<A: Allocator + Clone>(alloc: &A, dir: &str, name: &str) -> Result<Str
 impl<A: Allocator> FolderFile<A> {
     ghost use Rattle.std.specs.Prelude.{◌≡◌};
 
-    // The file as a change of an environment.
+    // Returns the file as a change of an environment.
     fn change(&self) -> EnvFile<'_>
         ensures { result ≡ self.now }
     {
@@ -148,7 +148,7 @@ impl<A: Allocator> FolderFile<A> {
     }
 }
 
-/// What is wrong with the first file that can't be applied, or none if all can. It takes no memory.
+/// Returns the fault of the first file that can't be applied, or none if all can. Needs no memory.
 pub fn fault_in<A: Allocator>(folder: &[FolderFile<A>]) -> Option<EnvFault>
     ensures { result ≡ first_fault folder.now }
 {
@@ -161,7 +161,7 @@ pub fn fault_in<A: Allocator>(folder: &[FolderFile<A>]) -> Option<EnvFault>
     None
 }
 
-/// The files as changes of an environment.
+/// Returns the files as changes of an environment.
 pub fn env_files<'a, A: Allocator + Clone>(
     alloc: &A,
     folder: &'a [FolderFile<A>],
@@ -175,7 +175,7 @@ pub fn env_files<'a, A: Allocator + Clone>(
     Ok(files)
 }
 
-/// The name of the file at a place, empty if there is none.
+/// Returns the name of the file at a place, or an empty name if there is none.
 pub fn name_at<A: Allocator>(folder: &[FolderFile<A>], place: usize) -> &str
     ensures { result.now ≡ option_map_or (λ file. file.name) (slice_get folder.now place) [] }
 {

@@ -3,7 +3,7 @@ use std::alloc::Allocator;
 use std::io;
 use std::process::{Command, ExitStatus, Processes};
 
-/// Starts commands. Contracts see which commands it was handed and how that ended, where it keeps that.
+/// Starts commands. Contracts see the commands that it was given and their results, if it keeps them.
 pub trait Launcher {
     ghost use Rattle.std.specs.Prelude.{◌∷◌, [], Option, List, None};
     ghost use Rattle.cmd_envdir.specs.System.{Launch, launch_of};
@@ -11,19 +11,19 @@ pub trait Launcher {
 
     ghost calls: { Self → Option (List Launch) } = { λ _. None };
 
-    /// Starts a command, waits for the child's end, and answers how it ended.
+    /// Starts a command, waits until the child ends, and returns how it ended.
     fn launch<A: Allocator + Clone>(&mut self, command: &mut Command<A>) -> io::Result<ExitStatus>
         ensures handed { Extended (calls self.old) (calls self.new) (launch_of command.old result ∷ []) };
 }
 
-/// Starts commands on this system. It says nothing to contracts of what it started.
+/// Starts commands on this system. It does not show contracts what it started.
 #[derive(Drop)]
 pub struct SystemLauncher<R: Processes + Drop> {
     runtime: R,
 }
 
 impl<R: Processes + Drop> SystemLauncher<R> {
-    /// The launcher of this runtime.
+    /// Returns the launcher of this runtime.
     pub fn new(runtime: R) -> SystemLauncher<R> {
         SystemLauncher { runtime }
     }

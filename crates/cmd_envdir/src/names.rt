@@ -11,35 +11,35 @@ ghost use Rattle.cmd_envdir.specs.Names.{
   is_reserved,
 };
 
-/// Whether a byte is a letter of ASCII, or an underscore.
+/// Returns whether a byte is an ASCII letter or an underscore.
 fn is_letter(byte: u8) -> bool
     ensures { result ≡ is_letter byte }
 {
     matches!(byte, b'A'..=b'Z' | b'a'..=b'z' | b'_')
 }
 
-/// Whether a byte is a digit.
+/// Returns whether a byte is a digit.
 fn is_digit(byte: u8) -> bool
     ensures { result ≡ is_digit byte }
 {
     byte.is_ascii_digit()
 }
 
-/// Whether a byte is a letter of ASCII, an underscore or a digit.
+/// Returns whether a byte is an ASCII letter, an underscore or a digit.
 fn is_letter_or_digit(byte: u8) -> bool
     ensures { result ≡ is_letter_or_digit byte }
 {
     is_letter(byte) || is_digit(byte)
 }
 
-/// Whether all bytes are letters of ASCII, underscores or digits.
+/// Returns whether all bytes are ASCII letters, underscores or digits.
 fn are_letters_or_digits(bytes: &[u8]) -> bool
     ensures { result ≡ list_all is_letter_or_digit bytes.now }
 {
     bytes.iter().all(|byte| is_letter_or_digit(*byte))
 }
 
-/// Whether bytes are a name for a shell: letters, digits and underscores, of which the first is no digit.
+/// Returns whether bytes are a name for a shell: letters, digits and underscores, and the first one no digit.
 #[tactic(auto, unfolding(crate::specs::Names::is_identifier))]
 fn is_identifier(bytes: &[u8]) -> bool
     ensures { result ≡ is_identifier bytes.now }
@@ -47,7 +47,7 @@ fn is_identifier(bytes: &[u8]) -> bool
     !bytes.is_empty() && !is_digit(bytes[0]) && are_letters_or_digits(bytes)
 }
 
-/// Whether dash or bash sets a variable by itself, or does not let it be set.
+/// Returns whether dash or bash sets a variable by itself, or does not allow it to be set.
 fn is_reserved(name: &str) -> bool
     ensures { result ≡ is_reserved name.now }
 {
@@ -74,14 +74,14 @@ fn is_reserved(name: &str) -> bool
     )
 }
 
-/// Whether a variable that a shell changes by itself is left as the shell has it.
+/// Returns whether a variable that a shell changes by itself is left as the shell has it.
 pub fn is_left(name: &str) -> bool
     ensures { result ≡ is_left name.now }
 {
     matches!(name, "_" | "SHLVL" | "PS1" | "PS2" | "PS4") || name.as_bytes().starts_with(b"BASH")
 }
 
-/// Whether a shell sets the variable of this name as it is asked to.
+/// Returns whether a shell sets the variable with this name as it is asked to.
 pub fn is_plain(name: &str) -> bool
     ensures { result ≡ is_plain name.now }
 {

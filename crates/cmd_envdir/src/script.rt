@@ -1,4 +1,4 @@
-//! The commands of `envdir --shell`: by them a shell makes the environment of a folder's files.
+//! The commands of `envdir --shell`, by which a shell makes the environment of a folder's files.
 ghost use Rattle.std.specs.Prelude.{◌≡◌, ◌++◌, List, string_bytes, flat_map, IfOk, OnOk};
 ghost use Rattle.env_title.specs.Env.{Binding};
 ghost use Rattle.env_title.specs.Files.{env_after, is_hidden};
@@ -59,7 +59,7 @@ fn push_word<A: Allocator>(text: &mut Vec<u8, A>, word: &str) -> Result<(), Allo
     push_quoted(text, word, b' ')
 }
 
-/// Adds the line that makes of a variable what it is in an environment.
+/// Adds the line that gives a variable the value that it has in an environment.
 fn push_line<A: Allocator>(
     text: &mut Vec<u8, A>,
     target: &Env<A>,
@@ -83,7 +83,7 @@ fn push_line<A: Allocator>(
     }
 }
 
-/// Whether the name of a file begins with a dot.
+/// Returns whether the name of a file begins with a dot.
 fn is_hidden(file: &EnvFile<'_>) -> bool
     ensures { result ≡ is_hidden file.now }
 {
@@ -121,7 +121,7 @@ fn push_lines<A: Allocator>(
     Ok(())
 }
 
-/// Whether a file that is not hidden has this name.
+/// Returns whether a file that is not hidden has this name.
 fn names_file(files: &[EnvFile<'_>], name: &str) -> bool
     ensures { result ≡ names_file files.now name.now }
 {
@@ -133,7 +133,7 @@ fn names_file(files: &[EnvFile<'_>], name: &str) -> bool
     false
 }
 
-/// Whether `env` is to take away the variable of a file.
+/// Returns whether `env` must remove the variable of a file.
 #[tactic(auto, unfolding(crate::specs::Quoting::is_removed))]
 fn is_removed<A: Allocator>(target: &Env<A>, file: &EnvFile<'_>) -> bool
     ensures { result ≡ is_removed target.now file.now }
@@ -141,7 +141,7 @@ fn is_removed<A: Allocator>(target: &Env<A>, file: &EnvFile<'_>) -> bool
     !is_hidden(file) && !is_plain(file.name) && target.get(file.name).is_none()
 }
 
-/// Adds the words by which `env` takes away the variables of files that a shell does not.
+/// Adds the words by which `env` removes the variables of files that a shell does not remove.
 fn push_removals<A: Allocator>(
     text: &mut Vec<u8, A>,
     target: &Env<A>,
@@ -158,7 +158,7 @@ fn push_removals<A: Allocator>(
     Ok(())
 }
 
-/// The word by which `env` sets a variable.
+/// Returns the word by which `env` sets a variable.
 fn assignment<A: Allocator + Clone>(
     alloc: A,
     variable: &Variable<A>,
@@ -171,7 +171,7 @@ fn assignment<A: Allocator + Clone>(
     Ok(word)
 }
 
-/// Whether `env` is to set a variable.
+/// Returns whether `env` must set a variable.
 #[tactic(auto, unfolding(crate::specs::Quoting::is_set))]
 fn is_set(files: &[EnvFile<'_>], name: &str) -> bool
     ensures { result ≡ is_set files.now name.now }
@@ -179,7 +179,7 @@ fn is_set(files: &[EnvFile<'_>], name: &str) -> bool
     !is_plain(name) && (names_file(files, name) || !is_left(name))
 }
 
-/// Adds the word by which `env` sets a variable, if a shell does not.
+/// Adds the word by which `env` sets a variable, if a shell does not set it.
 fn push_setting<A: Allocator + Clone>(
     alloc: &A,
     text: &mut Vec<u8, A>,
@@ -195,7 +195,7 @@ fn push_setting<A: Allocator + Clone>(
     push_word(text, word.as_str())
 }
 
-/// Adds the words by which `env` sets the variables that a shell does not.
+/// Adds the words by which `env` sets the variables that a shell does not set.
 fn push_settings<A: Allocator + Clone>(
     alloc: &A,
     text: &mut Vec<u8, A>,
@@ -210,14 +210,14 @@ fn push_settings<A: Allocator + Clone>(
     Ok(())
 }
 
-/// Whether there are no words for `env`.
+/// Returns whether there are no words for `env`.
 fn are_none(removals: &[u8], settings: &[u8]) -> bool
     ensures { result ≡ are_none removals.now settings.now }
 {
     removals.is_empty() && settings.is_empty()
 }
 
-/// Adds the start of the command that runs a program by `env`.
+/// Adds the first words of the command that runs a program by `env`.
 fn push_env<A: Allocator>(
     text: &mut Vec<u8, A>,
     removals: &[u8],
@@ -232,7 +232,7 @@ fn push_env<A: Allocator>(
     Ok(())
 }
 
-/// Adds the start of the command that runs a program, by `env` if there are words for that.
+/// Adds the first words of the command that runs a program, by `env` if there are words for `env`.
 fn push_start<A: Allocator>(
     text: &mut Vec<u8, A>,
     removals: &[u8],
@@ -256,7 +256,7 @@ fn push_words<A: Allocator>(text: &mut Vec<u8, A>, words: &[&str]) -> Result<(),
     Ok(())
 }
 
-/// The commands by which a shell makes an environment, and runs these words.
+/// Returns the commands by which a shell makes an environment, and runs these words.
 fn text_of<A: Allocator + Clone>(
     alloc: &A,
     files: &[EnvFile<'_>],
@@ -278,7 +278,8 @@ fn text_of<A: Allocator + Clone>(
     Ok(text)
 }
 
-/// The commands by which a shell makes the environment of files, and runs the program of these words in its own place.
+/// Returns the commands by which a shell makes the environment of files, and runs the program in these words in its own
+/// place.
 ///
 /// `target` is what the files make of the variables that the shell was given.
 pub fn shell_text<A: Allocator + Clone>(

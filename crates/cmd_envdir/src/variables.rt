@@ -9,7 +9,7 @@ use std::env::FillError;
 use std::io::ErrorKind;
 use std::{env, str};
 
-/// The variables of this process, but for those that are not text.
+/// Returns the variables of this process, except those that are not text.
 pub fn system_env<R: env::Env, A: Allocator + Clone>(
     rt: &R,
     alloc: &A,
@@ -24,7 +24,7 @@ pub fn system_env<R: env::Env, A: Allocator + Clone>(
     Ok(variables)
 }
 
-/// The variables that a process was given, by the path of its `environ` in /proc, as `EnvSystem` says.
+/// Returns the variables that a process was given, by the path of its `environ` in /proc, as `EnvSystem` says.
 pub fn given_env<R: FileSource + env::Env, A: Allocator + Clone>(
     rt: &R,
     alloc: &A,
@@ -37,7 +37,7 @@ pub fn given_env<R: FileSource + env::Env, A: Allocator + Clone>(
     }
 }
 
-/// The variables of entries, each of which ends in a NUL.
+/// Returns the variables of entries that each end in a NUL.
 fn entries_env<A: Allocator + Clone>(alloc: &A, entries: &[u8]) -> Result<Env<A>, AllocError> {
     let mut variables = Env::new(alloc.clone()?);
     for entry in entries.split(|byte| *byte == 0) {
@@ -46,7 +46,7 @@ fn entries_env<A: Allocator + Clone>(alloc: &A, entries: &[u8]) -> Result<Env<A>
     Ok(variables)
 }
 
-/// The entry at a place, if there are so many.
+/// Returns the entry at a place, if there is one.
 fn entry_at<R: env::Env, A: Allocator + Clone>(
     rt: &R,
     alloc: &A,
@@ -68,7 +68,7 @@ fn entry_at<R: env::Env, A: Allocator + Clone>(
     Err(AllocError)
 }
 
-/// Puts the variable of an entry `NAME=VALUE`, where it is text.
+/// Puts the variable of an entry `NAME=VALUE`, if it is text.
 fn put_entry<A: Allocator + Clone>(
     variables: &mut Env<A>,
     alloc: &A,

@@ -56,7 +56,7 @@ fn report_fault<D: Read, W: Write, E: Write>(
     }
 }
 
-/// `sim` without words: answers the lines of the input.
+/// Answers the lines of the input, as `sim` does without words.
 fn answer_input<A: Allocator + Clone + Copy, D: Read, W: Write, E: Write>(
     alloc: A,
     reader: &mut Input<D>,
@@ -74,7 +74,7 @@ fn answer_input<A: Allocator + Clone + Copy, D: Read, W: Write, E: Write>(
     }
 }
 
-/// `sim table`: prints the table of the control bytes.
+/// Prints the table of the control bytes, as `sim table` does.
 fn show_table<W: Write, E: Write>(writer: &mut Output<W>, faults: &mut Output<E>) -> u8
     ensures ends { TableByStatus result writer.old writer.new faults.old faults.new }
 {

@@ -30,7 +30,7 @@ const ANSWERS: [&str; 8] = [
     "0.main.2 took record:400000000000000d000000000000000000750000 start -> starting",
 ];
 
-// The service of the script, in this life.
+// Returns the service of the script, in this life.
 fn service(life: u64) -> PartId {
     PartId {
         slot: 0,
@@ -39,7 +39,7 @@ fn service(life: u64) -> PartId {
     }
 }
 
-// The events of the script.
+// Returns the events of the script.
 fn script<R: Abort, A: Allocator + Clone + Copy>(rt: &R, alloc: A) -> Vec<SuiteEvent<A>, A>
     ensures { All IsSuiteEvent result.items }
 {

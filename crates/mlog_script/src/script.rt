@@ -41,11 +41,10 @@ impl<A: Allocator + Clone> Model for Script<A> {
 }
 
 impl<A: Allocator + Clone> Script<A> {
-    /// Reads the words of a script. No words are a valid script.
+    /// Reads the words of a script. An empty list of words is a valid script, and needs no memory.
     ///
     /// The first bad word is reported, even if there is no memory. Otherwise `OutOfMemory` is returned only if the
-    /// allocator refuses memory for the action of the reported word, or for the list of the actions up to it. No words
-    /// need no memory.
+    /// allocator refuses memory for the action of the reported word, or for the list of the actions up to it.
     pub fn read<W: AsSlice<u8>>(alloc: A, words: &[W]) -> Result<Script<A>, ScriptFault>
         ensures ok { IfOk result (λ script. map said (map W.items words.now) ≡ map (λ action. Ok action) script) }
         ensures refuses { MatchOption (first_fault (map W.items words.now))

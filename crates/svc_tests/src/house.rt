@@ -49,7 +49,7 @@ struct Stage<A: Allocator + Clone> {
 }
 
 impl<A: Allocator + Clone> Stage<A> {
-    // The mailbox takes its memory from an allocator of its own.
+    // Opens a service. The mailbox takes its memory from an allocator of its own.
     fn open<R: Wait>(rt: &R, alloc: Global, own: A, down: bool, script: Script) -> Option<Stage<A>>
         requires { script ≡ Some [] }
     {

@@ -3,7 +3,7 @@ use Rattle.std.specs.Process.{command_var, clears_env, SameProgramAndArgs}
 use Rattle.cmd_envdir.specs.Sayings.{said_after_files}
 use Rattle.cmd_envdir.proofs.child.remove_variables.Given as goal
 
--- what the files that are left still change
+-- the changes by the files that are left
 abbrev pub invariant-loop-file : goal.invariant-loop-file
 invariant-loop-file g l = record {
   call : SameProgramAndArgs l.fn.command l.command;

@@ -3,7 +3,7 @@ use Rattle.std.specs.Process.{command_var, clears_env, SameProgramAndArgs}
 use Rattle.cmd_envdir.specs.Sayings.{said_after_set}
 use Rattle.cmd_envdir.proofs.child.set_variables.Given as goal
 
--- what the variables that are left still change
+-- the changes by the variables that are left
 abbrev pub invariant-loop-variable : goal.invariant-loop-variable
 invariant-loop-variable g l = record {
   call : SameProgramAndArgs l.fn.command l.command;

@@ -5,7 +5,7 @@ use Rattle.std.specs.List.{filter}
 use Rattle.cmd_envdir.specs.Listing.{is_visible}
 use Rattle.cmd_envdir.proofs.folder.names_in.Given as goal
 
--- the entries so far could be read, and the visible names of them are kept
+-- the entries so far could be read, and their visible names are kept
 abbrev pub invariant-loop-entry : goal.invariant-loop-entry
 invariant-loop-entry g l =
     (entries : List _) × (l.yielded ≡ map Ok entries)
