@@ -4,4 +4,4 @@
 pub(crate) const KIT: &str = "rattle-kit-13f logic dac8208d650f15bf";
 
 /// The sum of its sources, as packaging/source-sum says it.
-pub(crate) const SOURCE: &str = "dd5937646fbf3bd4cbc2809942b8441f62b917fb3f7aca7013b8b7260741bf4b";
+pub(crate) const SOURCE: &str = "ad43959fac697461c26734f492f30d42e983464998967751c64f14b367906f53";

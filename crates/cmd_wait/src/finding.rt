@@ -158,7 +158,11 @@ fn age_asked<S: Services>(
 
 /// Returns what is found about a service, from what its status file says, and from the age of its process if that was
 /// asked for.
-fn record_finding(state: WaitState, read: &Result<Loaded, RecordFault>, age: Option<u128>) -> Finding
+fn record_finding(
+    state: WaitState,
+    read: &Result<Loaded, RecordFault>,
+    age: Option<u128>,
+) -> Finding
     ensures { result ≡ record_finding state read.now age }
 {
     match (state, read) {
