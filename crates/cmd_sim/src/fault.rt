@@ -13,7 +13,7 @@ use sup_core::EventFault;
 pub enum Why {
     /// The first word is not known.
     UnknownEvent,
-    /// The number of fields is wrong, or a field that should be no number and no label.
+    /// The number of fields is wrong, or a field other than a number or a label.
     Line,
     /// A number is wrong.
     Number,

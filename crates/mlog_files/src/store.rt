@@ -1,4 +1,4 @@
-//! The place of the files of logs.
+//! A store: the files of logs, status files and alerts.
 ghost use Rattle.std.specs.Prelude.{◌≡◌, ◌<◌, ◌≤◌, length, OnOk, OnErr};
 ghost use Rattle.mlog_files.specs.Files.{append_steps};
 ghost use Rattle.mlog_files.specs.Store.{Does, Fails};
@@ -36,7 +36,7 @@ pub trait LogStore {
         ensures ok { OnOk result (Does (state self.old) (state self.new) log (Finish label.now ∷ [])) }
         ensures err { OnErr result (FailsAt (state self.old) (state self.new) log) };
 
-    /// Removes the old file of a log with the smallest name in byte order.
+    /// Removes a log's old file: the one with the smallest name in byte order.
     fn remove_smallest(&mut self, log: usize) -> Result<(), StoreFault>
         requires { log < (state self.old).logs }
         ensures ok { OnOk result (Does (state self.old) (state self.new) log (Remove ∷ [])) }

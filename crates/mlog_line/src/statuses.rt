@@ -6,7 +6,7 @@ ghost use Rattle.mlog_line.specs.Several.{Replaced, ReplacedSome};
 
 use mlog_files::{LogStore, StoreFault};
 
-/// How many bytes a status file has. Newlines fill up a shorter line.
+/// How many bytes a status file has. A shorter line is filled up with newlines.
 const CONTENT: usize = 1001;
 
 /// Gives the content for a line with this front to each status file whose flag is set, once.

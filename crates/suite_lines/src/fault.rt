@@ -13,7 +13,7 @@ pub enum SuiteLineFault {
     /// A first word is not known: that of the line, or that of its event at a part.
     UnknownEvent,
 
-    /// The number of fields is wrong, or a field that should be no number and no label.
+    /// The number of fields is wrong, or a field other than a number or a label.
     Line,
 
     /// A number is wrong: that of a slot, a life or a process.

@@ -27,7 +27,7 @@ use tai_status::{Label, Phase, read_text};
 pub enum EventFault {
     /// The first word is not known.
     UnknownEvent,
-    /// The number of fields is wrong, or a field that should be no number and no label.
+    /// The number of fields is wrong, or a field other than a number or a label.
     Line,
     /// The process number is wrong.
     Number,

@@ -66,7 +66,8 @@ has_others_there generations intent all one =
     list_any (λ other. (other.neighbour == one.neighbour) && (is_open generations intent all other
     && not ((topmost generations intent all other).pid == one.pid))) all
 
--- A process belongs to a neighbour if it runs in the folder of a neighbour, and every other process there is below it.
+-- A process belongs to a neighbour if it runs in the folder of a neighbour, and every other open process there is below
+-- it.
 abbrev pub is_neighbours : (generations : ℕ) → Intent → List Seen → Seen → Bool
 is_neighbours generations intent all one =
     not (one.neighbour == 0) && not (has_others_there generations intent all one)

@@ -29,7 +29,7 @@ pub enum Cause {
     Missing,
     /// The user has no permission.
     Denied,
-    /// A path needs a folder, and something else is there.
+    /// Something that must be a folder is not one.
     NoFolder,
     /// No more descriptors can be open.
     NoDescriptor,
@@ -47,7 +47,7 @@ pub enum Cause {
     NotPermitted,
     /// A device failed.
     Device,
-    /// A call needs a file, and a folder is there.
+    /// Something that must be a file is a folder.
     IsFolder,
     /// Something has this name already.
     Exists,
