@@ -4,4 +4,4 @@
 pub(crate) const KIT: &str = "rattle-kit-13f logic dac8208d650f15bf";
 
 /// The sum of its sources, as packaging/source-sum says it.
-pub(crate) const SOURCE: &str = "ad43959fac697461c26734f492f30d42e983464998967751c64f14b367906f53";
+pub(crate) const SOURCE: &str = "8be39a78807f27937929b779a77a5b6c1c17f9214753c9218d27f30285a279d3";
