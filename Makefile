@@ -34,7 +34,7 @@ PLACES = $(WRAPPERS) $(if $(filter 1,$(NAMES)),$(BIN))
 USED = env flock getent nice prlimit setpriv setsid sleep
 PATHS = $(foreach tool,$(USED),s|/usr/bin/$(tool) |$(or $(if $(TOOLS),$(TOOLS)/$(tool)),$(shell PATH=/usr/bin:/bin:/usr/sbin:/sbin:$$PATH command -v $(tool)),/usr/bin/$(tool)) |g;)
 # A script as it is installed: the paths of the program, of the tools and of the folder of services are absolute.
-SCRIPT = sed '$(PATHS) s|"$${DTOOLS:-dtools}"|$(PREFIX)/bin/dtools|g; s|$${DTOOLS:-dtools}|$(PREFIX)/bin/dtools|g; s|/etc/dtools/service|$(SERVICES)|g' contrib/$(1)
+SCRIPT = sed '$(PATHS) s|"$${DTOOLS:-dtools}"|$(PREFIX)/bin/dtools|g; s|$${DTOOLS:-dtools}|$(PREFIX)/bin/dtools|g; s|/etc/dtools/service|$(SERVICES)|g' scripts/$(1)
 # Whose completion is that of dtools.
 COMPLETED = svc svstat svok svwait setuidgid envuidgid softlimit setlock pgrphack fghack
 
@@ -85,7 +85,7 @@ install:
 	    gzip -9n >$(MANUAL)/man$${page##*.}/$$page.gz; \
 	done
 	chmod 644 $(MANUAL)/man*/*
-	sed 's|/etc/dtools/service|$(SERVICES)|' contrib/dtools.bash >$(COMPLETIONS)/dtools
+	sed 's|/etc/dtools/service|$(SERVICES)|' scripts/dtools.bash >$(COMPLETIONS)/dtools
 	chmod 644 $(COMPLETIONS)/dtools
 	for command in $(COMPLETED); do ln -sf dtools $(COMPLETIONS)/$$command; done
 

@@ -45,7 +45,7 @@ mkdir d
 is_started() { ps -o args= --ppid "$begun" | grep -q ' svscan d$'; }
 statuses=
 for turn in $(seq 20); do
-  begin "$top/contrib/svscan-run" d
+  begin "$top/scripts/svscan-run" d
   soon 'svscan is started' is_started
   case $turn in *[02468]) soon 'svscan is served' "$program" svok d/.svscan ;; esac
   bash -c 'for ((sent = 0; sent < 5000; sent++)); do
@@ -66,7 +66,7 @@ exec sleep 1000
 END
 limit_of() {
   rm -f d/web/limit
-  begin bash -c "ulimit -Sn $1; exec \"\$0\" d" "$top/contrib/svscan-run"
+  begin bash -c "ulimit -Sn $1; exec \"\$0\" d" "$top/scripts/svscan-run"
   for _ in $(seq 200); do [ -s d/web/limit ] && break; sleep 0.05; done
   cat d/web/limit
   kill -TERM "$begun"
@@ -91,17 +91,17 @@ begin "$program" svscan d
 soon 'all run' "$program" wait -u d/web d/stubborn d/stubborn/log
 svscan=$begun
 # As systemd runs it after svscan has ended by itself.
-SERVICE_RESULT=success "$top/contrib/svscan-stop" d 1
+SERVICE_RESULT=success "$top/scripts/svscan-stop" d 1
 is 'without a main process: status' 0 "$?"
 is 'without a main process: svscan goes on' 0 "$(kill -0 "$svscan"; echo $?)"
-SERVICE_RESULT=success MAINPID=$svscan "$top/contrib/svscan-stop" d 1 2>stop.reported
+SERVICE_RESULT=success MAINPID=$svscan "$top/scripts/svscan-stop" d 1 2>stop.reported
 is 'svscan-stop: status' 0 "$?"
 is 'svscan-stop: reported' '' "$(cat stop.reported)"
 soon 'svscan has ended' bash -c "! kill -0 $svscan"
 is 'no process is left' '' "$(while read -r number; do kill -0 "$number" 2>/dev/null && echo "$number"; done <numbers)"
 is 'its last words are logged' 'last words' "$(tail -n 1 d/stubborn/log/main/current)"
-"$top/contrib/svscan-stop" d 1
+"$top/scripts/svscan-stop" d 1
 is 'svscan-stop without a svscan' 0 "$?"
-"$top/contrib/svscan-stop" 2>stop.reported
+"$top/scripts/svscan-stop" 2>stop.reported
 is 'svscan-stop without words' '100 svscan-stop: usage: svscan-stop dir [seconds]' "$? $(cat stop.reported)"
 counts ends

@@ -1,12 +1,12 @@
 #!/usr/bin/env bash
-# The commands of `envdir --shell`, as a shell reads them, and the script contrib/envdir, which starts a program in its own
+# The commands of `envdir --shell`, as a shell reads them, and the script scripts/envdir, which starts a program in its own
 # place, below dash and bash. Runs the program that the first word names. The wanted values are those of docs/FORMATS.md and of
 # the page cr.yp.to/daemontools/envdir.html; if Debian's daemontools are installed, also what their envdir makes.
 # gate: 25 seconds
 top=$(realpath "$(dirname "$0")/..")
 . "$top/tests/checks.sh" "$1"
 export DTOOLS=$program
-script=$top/contrib/envdir
+script=$top/scripts/envdir
 svscan=
 leave() {
   [ -n "$svscan" ] && kill -KILL "$svscan" 2>/dev/null

@@ -75,7 +75,7 @@ is 'by a wrapper without PATH' 'none: supervise not running' "$(env -i "$prefix/
 # completes WORD..: what the completion of bash makes of the last word
 completes() {
   (
-    . "$top/contrib/dtools.bash"
+    . "$top/scripts/dtools.bash"
     SVDIR=services COMP_WORDS=("$@") COMP_CWORD=$(($# - 1))
     _dtools
     echo "${COMPREPLY[@]}"

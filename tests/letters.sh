@@ -25,7 +25,7 @@ is 'dtools-svc(8), synopsis' "$letters" "$(sed -n 's/^\.Op Fl \([a-z0-9]*\)$/\1/
 is 'dtools-svc(8), letters' "$(in_order "$letters")" \
   "$(in_order "$(sed -n 's/^\.It Fl \([^W]\)$/\1/p' "$top/man/dtools-svc.8" | tr -d '\n')")"
 is 'completion' "$letters" \
-  "$(sed -n "s/^ *svc:-.*-W '\(.*\)' --.*/\1/p" "$top/contrib/dtools.bash" | grep -oE -- '-[a-z0-9] ' | tr -d -- '- \n')"
+  "$(sed -n "s/^ *svc:-.*-W '\(.*\)' --.*/\1/p" "$top/scripts/dtools.bash" | grep -oE -- '-[a-z0-9] ' | tr -d -- '- \n')"
 is 'FORMATS, up' "$(grep ' running: ' <<<"$table")" "$(asked 3 running)"
 is 'FORMATS, down' "$(grep ' idle: ' <<<"$table")" "$(asked 5 idle)"
 counts letters

@@ -101,9 +101,9 @@ rows=0
 while IFS='|' read -r commands texts; do
   rows=$((rows + 1))
   for command in ${commands//,/}; do
-    cat sources "$top/contrib/$command" >printers 2>/dev/null
+    cat sources "$top/scripts/$command" >printers 2>/dev/null
     # An installed tarball has only the scripts.
-    [ -s sources ] || [[ ' envdir multilog any help version ' != *" $command "* && -e $top/contrib/$command ]] || continue
+    [ -s sources ] || [[ ' envdir multilog any help version ' != *" $command "* && -e $top/scripts/$command ]] || continue
     while IFS= read -r line; do
       piece=$(sed -E "s/^(COMMAND|$command): //; s/\.\.$//; s/[A-Z]{2,}|\<[A-Z]\>/\n/g" <<<"$line" |
         awk '{ gsub(/^[:\/ .]+|[:\/ ]+$/, ""); if (length($0) > length(most)) most = $0 } END { print most }')
@@ -121,7 +121,7 @@ done < <({
     grep -oE '"[^"]*(unable to|still runs|still supervised|not up in|not down in|were not|are needed|not text|written again|listed again|no text|not running|no answer)[^"]*"' |
     sed -E 's/^"[: ]*//; s/(\\n)?"$//; s/[: ]*$//'
   for script in multilog envdir envuidgid setuidgid setlock softlimit pgrphack fghack svscan-run svscan-stop dtools-service; do
-    grep -vE '^ *#' "$top/contrib/$script" | grep -E '>&2|fail ' |
+    grep -vE '^ *#' "$top/scripts/$script" | grep -E '>&2|fail ' |
       grep -oE '(no [a-z]+ [a-z ]+|unable to [a-z]+|unknown account|it [a-z]+ [a-z ]+|is not served in|still runs)' | sed 's/ *$//'
   done
 } | sort -u)

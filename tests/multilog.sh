@@ -4,7 +4,7 @@
 # The wanted values are those of the multilog page of daemontools and of docs/FORMATS.md.
 # gate: 45 seconds, needs python3
 calls=$(realpath "$(dirname "$0")/calls.c")
-wrapper=$(realpath "$(dirname "$0")/../contrib/multilog")
+wrapper=$(realpath "$(dirname "$0")/../scripts/multilog")
 . "$(dirname "$0")/checks.sh" "$1"
 export DTOOLS=$program
 mounted=

@@ -15,7 +15,7 @@ trap leave EXIT
 [ -e "$top/packaging/build" ] && command -v dpkg-deb strip >/dev/null || { echo 'package: skipped, it is not made here'; exit; }
 
 # The same program gives the same package, in whichever folder.
-cp -r "$top/packaging" "$top/Makefile" "$top/contrib" "$top/man" "$top/docs" "$top/tests" "$top"/{README,CHANGELOG}.md "$top"/LICENSE* .
+cp -r "$top/packaging" "$top/Makefile" "$top/contrib" "$top/scripts" "$top/man" "$top/docs" "$top/tests" "$top"/{README,CHANGELOG}.md "$top"/LICENSE* .
 is "Debian's changelog" "$("$top/packaging/debian-changelog")" "$(cat "$top/packaging/changelog")"
 "$top/packaging/build" "$program" "$room/one"
 packaging/build "$program" "$room/two"

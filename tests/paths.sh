@@ -17,7 +17,7 @@ while IFS= read -r row; do
   while IFS= read -r word; do
     case $word in
     crates/*) path=$word; crate=${word#crates/}; crate=crates/${crate%%/*} ;;
-    tests/* | packaging/* | contrib/* | docs/* | man | man/* | bench/* | Makefile | README.md | crates.txt) path=$word ;;
+    tests/* | packaging/* | contrib/* | scripts/* | docs/* | man | man/* | bench/* | Makefile | README.md | crates.txt) path=$word ;;
     src | specs | proofs | src/* | specs/* | proofs/*) path=$crate/$word ;;
     */specs/* | */src/*) path=crates/$word; crate=crates/${word%%/*} ;;
     *.rt | *.antt | postinst | prerm | postrm) path=$folder/$word ;;

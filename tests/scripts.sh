@@ -6,7 +6,7 @@ top=$(realpath "$(dirname "$0")/..")
 . "$top/tests/checks.sh" "$1"
 trap 'rm -rf "$room"' EXIT
 make -s -C "$top" PROGRAM="$program" DESTDIR="$room/root" PREFIX=/usr install >/dev/null 2>&1
-installed=$(grep -lrs '^#!/bin/sh' root "$top/contrib" "$top/packaging")
+installed=$(grep -lrs '^#!/bin/sh' root "$top/contrib" "$top/scripts" "$top/packaging")
 is 'there are scripts' yes "$([ "$(wc -w <<<"$installed")" -gt 25 ] && echo yes)"
 for script in $installed; do
   for shell in dash bash; do

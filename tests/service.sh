@@ -10,7 +10,7 @@ leave() {
 }
 trap leave EXIT
 export DTOOLS=$program SVDIR=$room/services
-service() { "$top/contrib/dtools-service" "$@"; }
+service() { "$top/scripts/dtools-service" "$@"; }
 
 # ended NAME STATUS REPORTED WORDS..
 ended() {

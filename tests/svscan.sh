@@ -5,7 +5,7 @@
 # are. The wanted values are those of the daemontools pages and of docs/FORMATS.md. It needs python3, for clients that
 # send what svc never does.
 # gate: 100 seconds, needs python3
-contrib=$(realpath "$(dirname "$0")/../contrib")
+scripts=$(realpath "$(dirname "$0")/../scripts")
 . "$(dirname "$0")/checks.sh" "$1"
 export LC_ALL=C
 under=()
@@ -1635,7 +1635,7 @@ END
   service d/short <<<'exit 0'
   sleeper 'd/two words'
   set -m
-  DTOOLS=$program "$contrib/svscan-run" d </dev/null >out 2>reported &
+  DTOOLS=$program "$scripts/svscan-run" d </dev/null >out 2>reported &
   local wrapper=$!
   set +m
   echo "$wrapper" >>"$room/$scenario.groups"
@@ -1656,9 +1656,9 @@ END
   is 'reported' '' "$(cat reported)"
   start reported2 d
   soon 'the next svscan begins each' 10 all_are is_settled d/web d/web/log 'd/two words'
-  is 'a bad folder: status' 111 "$(DTOOLS=$program "$contrib/svscan-run" none/at/all 2>none & sleep 1; kill -TERM $!; wait $!; echo $?)"
+  is 'a bad folder: status' 111 "$(DTOOLS=$program "$scripts/svscan-run" none/at/all 2>none & sleep 1; kill -TERM $!; wait $!; echo $?)"
   so 'a bad folder: reported' holds '^svscan: unable to read none/at/all: Not a directory$' none
-  is 'a folder that another svscan has' '111 svscan: unable to lock d' "$(DTOOLS=$program "$contrib/svscan-run" d 2>locked; echo "$? $(cat locked)")"
+  is 'a folder that another svscan has' '111 svscan: unable to lock d' "$(DTOOLS=$program "$scripts/svscan-run" d 2>locked; echo "$? $(cat locked)")"
 }
 
 # As the first process of a space of its own svscan-run leaves no zombie, and ends with all others.
@@ -1669,7 +1669,7 @@ first_process() {
 exec sleep 1000
 END
   set -m
-  DTOOLS=$program unshare --pid --fork --mount-proc --kill-child "$contrib/svscan-run" d </dev/null >out 2>reported &
+  DTOOLS=$program unshare --pid --fork --mount-proc --kill-child "$scripts/svscan-run" d </dev/null >out 2>reported &
   local outer=$! first
   set +m
   echo "$outer" >>"$room/$scenario.groups"

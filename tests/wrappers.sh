@@ -9,20 +9,19 @@ trap 'rm -rf "$room"' EXIT
 [ "$(id -u)" = 0 ] || { echo 'wrappers: skipped, root alone may change accounts'; exit 0; }
 # A copy that every account reaches.
 chmod 755 .
-cp -r "$top/contrib" scripts
+cp -r "$top/scripts" scripts
 top=$room
-mv scripts contrib
 
 # is_real COMMAND: whether daemontools' own is installed
 real=$(dpkg -L daemontools 2>/dev/null)
 is_real() { grep -qx "/usr/bin/$1" <<<"$real"; }
 
-# ended NAME STATUS PRINTED REPORTED COMMAND WORDS..: this command of contrib/ ends so, and the installed one of daemontools with
+# ended NAME STATUS PRINTED REPORTED COMMAND WORDS..: this command of scripts/ ends so, and the installed one of daemontools with
 # the same status and the same bytes printed
 ended() {
   local name=$1 status=$2 printed=$3 reported=$4 command=$5
   shift 5
-  timeout 10 "$top/contrib/$command" "$@" >out 2>reported </dev/null
+  timeout 10 "$top/scripts/$command" "$@" >out 2>reported </dev/null
   is "$command, $name: status" "$status" "$?"
   is "$command, $name: printed" "$printed" "$(cat out)"
   is "$command, $name: reported" "$reported" "$(cat reported)"
@@ -36,7 +35,7 @@ ended() {
 one_number() {
   local command=$1
   shift
-  sh -c 'echo $$; exec "$0" "$@"' "$top/contrib/$command" "$@" sh -c 'echo $$' >numbers
+  sh -c 'echo $$; exec "$0" "$@"' "$top/scripts/$command" "$@" sh -c 'echo $$' >numbers
   is "$command: one process" 1 "$(sort -u numbers | wc -l)"
 }
 
@@ -44,7 +43,7 @@ one_number() {
 printf '#!/bin/sh\necho "$*"\n' >words
 chmod 755 words
 for script in envdir envuidgid setuidgid softlimit setlock pgrphack fghack multilog svscan-run svscan-stop dtools-service; do
-  is "$script --help" "help $script" "$(DTOOLS=$room/words "$top/contrib/$script" --help 2>&1)"
+  is "$script --help" "help $script" "$(DTOOLS=$room/words "$top/scripts/$script" --help 2>&1)"
 done
 
 usage='setuidgid: usage: setuidgid account child'
@@ -62,7 +61,7 @@ mkdir -m 755 seen
 printf '#!/bin/sh\n' >seen/own
 chmod 700 seen/own
 ended 'not for the account' 111 '' "setuidgid: unable to run $room/seen/own: Permission denied" setuidgid nobody "$room/seen/own"
-setpriv --reuid 65534 "$top/contrib/setuidgid" root true 2>reported
+setpriv --reuid 65534 "$top/scripts/setuidgid" root true 2>reported
 is 'setuidgid, no right: status' 111 "$?"
 is 'setuidgid, no right: reported' 'setuidgid: unable to change to the account: Operation not permitted' "$(cat reported)"
 
@@ -73,20 +72,20 @@ chmod 755 evil/*
 for words in 'setuidgid nobody' 'setuidgid nosuch' 'envuidgid nobody' 'softlimit -o 50' 'setlock lock' pgrphack; do
   # shellcheck disable=SC2086
   is "by a foreign PATH: $words" "$(case $words in *nosuch) echo 'setuidgid: unknown account nosuch' ;; *) echo it ran ;; esac)" \
-    "$(PATH=$room/evil "$top/contrib/"${words%% *} $(cut -s -d ' ' -f 2- <<<"$words") /bin/echo it ran 2>&1)"
+    "$(PATH=$room/evil "$top/scripts/"${words%% *} $(cut -s -d ' ' -f 2- <<<"$words") /bin/echo it ran 2>&1)"
 done
 rm -f lock
 
 # Low limits before a wrapper: what these scripts and their tools need, and no more.
-is 'setuidgid below -m 3000000' 'it ran' "$(ulimit -S -v 2929 -d 2929 -s 2929; "$top/contrib/setuidgid" nobody /bin/echo it ran 2>&1)"
-is 'envuidgid below -m 3000000' 'it ran' "$(ulimit -S -v 2929 -d 2929 -s 2929; "$top/contrib/envuidgid" nobody /bin/echo it ran 2>&1)"
-is 'softlimit below -m 3000000' 'it ran' "$(ulimit -S -v 2929 -d 2929 -s 2929; "$top/contrib/softlimit" -o 50 /bin/echo it ran 2>&1)"
-is 'setuidgid below -s 65536' 'it ran' "$(ulimit -S -s 64; "$top/contrib/setuidgid" nobody /bin/echo it ran 2>&1)"
+is 'setuidgid below -m 3000000' 'it ran' "$(ulimit -S -v 2929 -d 2929 -s 2929; "$top/scripts/setuidgid" nobody /bin/echo it ran 2>&1)"
+is 'envuidgid below -m 3000000' 'it ran' "$(ulimit -S -v 2929 -d 2929 -s 2929; "$top/scripts/envuidgid" nobody /bin/echo it ran 2>&1)"
+is 'softlimit below -m 3000000' 'it ran' "$(ulimit -S -v 2929 -d 2929 -s 2929; "$top/scripts/softlimit" -o 50 /bin/echo it ran 2>&1)"
+is 'setuidgid below -s 65536' 'it ran' "$(ulimit -S -s 64; "$top/scripts/setuidgid" nobody /bin/echo it ran 2>&1)"
 for words in 'softlimit -o 50' 'envuidgid nobody' pgrphack; do
   # No other process of this account may be started.
   # shellcheck disable=SC2086
   is "below -p 1: $words" 'it ran' "$(setpriv --reuid 65533 --regid 65533 --clear-groups prlimit --nproc=1: \
-    "$top/contrib/"$words /bin/echo it ran 2>&1)"
+    "$top/scripts/"$words /bin/echo it ran 2>&1)"
 done
 
 ended 'no words' 100 '' 'envuidgid: usage: envuidgid account child' envuidgid
@@ -109,7 +108,7 @@ show='for limit in AS CORE DATA FSIZE MEMLOCK NOFILE NPROC RSS STACK CPU; do
 for words in '-a 900000000' '-c 5000' '-d 90000000' '-f 70000' '-l 30000' '-m 900000000' '-o 20' '-p 900' '-r 8000000' \
   '-s 4000000' '-t 100' '-o =' '-o 99999999999' '-c 99999999999999999999999' '-m 900000000 -d 80000000 -o 30 -c 0'; do
   # shellcheck disable=SC2086
-  "$top/contrib/softlimit" $words sh -c "$show" >ours 2>&1
+  "$top/scripts/softlimit" $words sh -c "$show" >ours 2>&1
   case $words in
     -o\ 20) is 'softlimit, open files' 'NOFILE 20' "$(grep NOFILE ours | cut -d' ' -f1,2)" ;;
     -m\ 900000000) is 'softlimit, memory' 'AS 900000000 DATA 900000000' "$(grep -E '^(AS|DATA)' ours | cut -d' ' -f1,2 | xargs)" ;;
@@ -134,15 +133,15 @@ ended 'no file' 111 '' 'setlock: unable to open nosuch/lock: No such file or dir
 ended 'no file, -x' 0 '' '' setlock -x nosuch/lock true
 ended 'words' 7 'a b|' '' setlock 'a lock' sh -c 'printf "%s|" "$1"; exit 7' sh 'a b'
 rm lock
-"$top/contrib/setlock" lock true
+"$top/scripts/setlock" lock true
 is 'setlock, mode of a new file' 600 "$(stat -c %a lock)"
 echo kept >>lock
 # The holder of a lock goes on once a file `go` is there, so that nothing here depends on how fast this machine is.
-"$top/contrib/setlock" lock sh -c 'echo held >held; while ! [ -e go ]; do sleep 0.05; done; echo first >>order' &
+"$top/scripts/setlock" lock sh -c 'echo held >held; while ! [ -e go ]; do sleep 0.05; done; echo first >>order' &
 while ! [ -s held ]; do sleep 0.05; done
 ended 'locked, -n' 111 '' 'setlock: unable to lock lock: Resource temporarily unavailable' setlock -n lock true
 ended 'locked, -nx' 0 '' '' setlock -nx lock echo ran
-"$top/contrib/setlock" lock sh -c 'echo second >>order' &
+"$top/scripts/setlock" lock sh -c 'echo second >>order' &
 second=$!
 sleep 0.3
 : >go
@@ -153,7 +152,7 @@ one_number setlock lock
 wait
 rm go
 # A lock under another one: both are held.
-"$top/contrib/setlock" lock "$top/contrib/setlock" other sh -c ': >both; while ! [ -e go ]; do sleep 0.05; done' &
+"$top/scripts/setlock" lock "$top/scripts/setlock" other sh -c ': >both; while ! [ -e go ]; do sleep 0.05; done' &
 while ! [ -e both ]; do sleep 0.05; done
 ended 'the outer lock, -n' 111 '' 'setlock: unable to lock lock: Resource temporarily unavailable' setlock -n lock true
 ended 'the inner lock, -n' 111 '' 'setlock: unable to lock other: Resource temporarily unavailable' setlock -n other true
@@ -171,32 +170,32 @@ read -r line </proc/self/stat
 set -- $$ ${line##*) }
 echo "$1 $4 $5"
 END
-read -r number group session <<<"$("$top/contrib/pgrphack" sh whose)"
+read -r number group session <<<"$("$top/scripts/pgrphack" sh whose)"
 is 'pgrphack: it leads its group and its session' "$number $number" "$group $session"
-read -r number group session <<<"$("$top/contrib/pgrphack" "$top/contrib/pgrphack" sh whose)"
+read -r number group session <<<"$("$top/scripts/pgrphack" "$top/scripts/pgrphack" sh whose)"
 is 'pgrphack, twice' "$number $number" "$group $session"
 set -m
-sh -c 'echo $$ >leader; exec "$0" sh whose' "$top/contrib/pgrphack" >led &
+sh -c 'echo $$ >leader; exec "$0" sh whose' "$top/scripts/pgrphack" >led &
 wait $!
 set +m
 is 'pgrphack of a leader: the number stays' "$(cat leader)" "$(cut -d ' ' -f 1 led)"
 # What it sends to its own group reaches nobody else.
-is 'pgrphack: kill 0' 'alive' "$(setsid -w sh -c '"$0" sh -c "kill 0"; echo alive' "$top/contrib/pgrphack" 2>/dev/null)"
+is 'pgrphack: kill 0' 'alive' "$(setsid -w sh -c '"$0" sh -c "kill 0"; echo alive' "$top/scripts/pgrphack" 2>/dev/null)"
 
 # fghack: it waits until nobody has the pipe any more.
 ended 'no words' 100 '' 'fghack: usage: fghack child' fghack
 ended 'a missing program' 111 '' 'fghack: unable to run nosuch: No such file or directory' fghack nosuch
 ended 'status' 7 'a b|' '' fghack sh -c 'printf "%s|" "$1"; exit 7' sh 'a b'
 ended 'a signal' 111 '' '' fghack sh -c 'kill -KILL $$'
-is 'fghack: its input' hello "$(echo hello | "$top/contrib/fghack" cat)"
-is 'fghack: both outputs' 'out err' "$("$top/contrib/fghack" sh -c 'echo out; echo err >&2' 2>&1 | xargs)"
+is 'fghack: its input' hello "$(echo hello | "$top/scripts/fghack" cat)"
+is 'fghack: both outputs' 'out err' "$("$top/scripts/fghack" sh -c 'echo out; echo err >&2' 2>&1 | xargs)"
 cat >daemon <<'END'
 # in the background, in a session of its own, with nothing of the caller's
 setsid sh -c 'while ! [ -e go ]; do sleep 0.05; done; echo ended >daemon.ended' </dev/null >/dev/null 2>&1 &
 exit 3
 END
 rm -f go
-"$top/contrib/fghack" sh daemon &
+"$top/scripts/fghack" sh daemon &
 waiting=$!
 sleep 0.5
 is 'fghack: it waits' yes "$(kill -0 "$waiting" 2>/dev/null && echo yes)"
@@ -206,7 +205,7 @@ is 'fghack: the status is that of the program' 3 "$?"
 is 'fghack: the daemon had ended' ended "$(cat daemon.ended)"
 sed -i 's|^setsid|3>\&- 4>\&- 5>\&- 6>\&- 7>\&- 8>\&- 9>\&- setsid|; s/daemon.ended/closed.ended/' daemon
 rm go
-"$top/contrib/fghack" sh daemon
+"$top/scripts/fghack" sh daemon
 is 'fghack: not for one that closes the pipe: status' 3 "$?"
 is 'fghack: not for one that closes the pipe' no "$([ -e closed.ended ] || echo no)"
 : >go
