@@ -1,8 +1,8 @@
 #!/usr/bin/env bash
 # The documents are in plain English: no sentence has more than 35 words, no paragraph and no item of a list more than six lines,
 # and the words of the list below are not used. It looks at README and the other pages next to it, docs, the manual, the crates'
-# pages, and README of tests, bench, contrib, scripts and packaging, as far as they are there (an installed tarball has fewer).
-# It also looks at the comments of the crates' code. Takes the program that the first word names.
+# pages, README of tests, bench, contrib, scripts and packaging, the results of bench, and the comments of the crates' code, as far
+# as they are there (an installed tarball has fewer). Takes the program that the first word names.
 #
 # A sentence goes from the beginning of a paragraph or of an item, or from the end of a sentence, to the first `.`, `!` or `?`
 # before a blank or the end. Text in backquotes, and a list of such texts, counts as one word. A word without a letter or digit
@@ -38,7 +38,7 @@ END
 
 cd "$top" || exit 1
 pages=()
-for page in *.md docs/*.md man/*.[1-8] {tests,bench,contrib,scripts,packaging}/README.md crates/*/README.md; do
+for page in *.md docs/*.md man/*.[1-8] {tests,bench,contrib,scripts,packaging}/README.md bench/RESULTS.md crates/*/README.md; do
   [ -e "$page" ] && pages+=("$page")
 done
 python3 -B tests/prose.py "$room/words" "${pages[@]}" >"$room/found"
