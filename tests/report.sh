@@ -113,7 +113,7 @@ rm s/supervise/status
 object 'no status' 'error="unable to read status"' s
 # What is reported of folders that are not there.
 lacks() { printf 'svstat: %s: No such file or directory\n' "$@"; }
-missing=$(lacks nosuch) object 'nobody there' 'error="supervise not running"' nosuch
+missing=$(lacks nosuch) object 'nobody there' 'up=false error="supervise not running"' nosuch
 if [ "$(id -u)" = 0 ] && command -v setpriv >/dev/null; then
   cp "$program" own
   chmod 711 "$room" own
@@ -241,7 +241,7 @@ names=('a b' '"' '\' '\"' "'" '{"path":"x"}' $'a\nb' $'\n' $'\t\r\b\f' $'\x01\x1
   $'\xe2\x80\xa8' "$(printf 'n%.0s' $(seq 255))" "$(printf '"%.0s' $(seq 255))" "$(printf '\\%.0s' $(seq 255))"
   "$(printf 'é%.0s' $(seq 127))")
 errors=() stands=()
-for name in "${names[@]}"; do errors+=('error="supervise not running"'); done
+for name in "${names[@]}"; do errors+=('up=false error="supervise not running"'); done
 missing=$(lacks "${names[@]}") object 'names: nobody there' "$(printf '%s\n' "${errors[@]}")" "${names[@]}"
 for name in "${names[@]}"; do
   listen "./$name"
@@ -271,7 +271,7 @@ metrics 'metrics: all names' "$(
 # Words.
 object 'no service' ''
 metrics 'metrics: no service' ''
-missing=$(lacks nosuch nosuch) object 'a service twice' "$(printf '%s\n' 'error="supervise not running"' 'error="supervise not running"')" nosuch nosuch
+missing=$(lacks nosuch nosuch) object 'a service twice' "$(printf '%s\n' 'up=false error="supervise not running"' 'up=false error="supervise not running"')" nosuch nosuch
 is 'a form is the first word alone' "nosuch: supervise not running
 $room/--json: unable to read status" "$(rm "$room/--json/supervise/status" && "$program" svstat nosuch "$room/--json" 2>/dev/null)"
 timeout 20 "$program" svstat --json nosuch >/dev/full 2>reported </dev/null

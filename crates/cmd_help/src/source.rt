@@ -4,4 +4,4 @@
 pub(crate) const KIT: &str = "rattle-kit-13f logic dac8208d650f15bf";
 
 /// The sum of its sources, as packaging/source-sum says it.
-pub(crate) const SOURCE: &str = "8be39a78807f27937929b779a77a5b6c1c17f9214753c9218d27f30285a279d3";
+pub(crate) const SOURCE: &str = "aa3dae82806992eebe6863c9317dd642abae1a2dc418953b9876323221d73739";

@@ -1,5 +1,5 @@
 -- A look at a service as a JSON object (RFC 8259): the tokens of its text.
-use Rattle.std.specs.Prelude.{◌≡◌, ℕ, Bool, if◌then◌else◌, List, [], ◌∷◌, ◌++◌, codes, decimal}
+use Rattle.std.specs.Prelude.{◌≡◌, ℕ, Bool, false, if◌then◌else◌, List, [], ◌∷◌, ◌++◌, codes, decimal}
 use Rattle.json.specs.Token.{Token, begin_object, end_object, key, string, number, boolean, null}
 use Rattle.json.specs.Print.{print}
 use Rattle.json.specs.Written.{Written}
@@ -85,9 +85,15 @@ standing_members loaded normally_up now =
     ++ asked_members (status_in loaded) normally_up
     ++ exiting_member loaded
 
+-- A service that is not supervised counts as not up.
+unfoldable pub unreached_members : Unreached → List Token
+unreached_members unreached.NotRunning =
+    boolean_member (codes "up") false ++ string_member (codes "error") (unreached_text unreached.NotRunning)
+unreached_members other = string_member (codes "error") (unreached_text other)
+
 -- the members after the path
 abbrev pub look_members : Look → List Token
-look_members (look.Unreached why) = string_member (codes "error") (unreached_text why)
+look_members (look.Unreached why) = unreached_members why
 look_members look.Unread = string_member (codes "error") (codes "unable to read status")
 look_members (look.Bad cause) = string_member (codes "error") (codes "bad status record: " ++ fault_name cause)
 look_members (look.Standing loaded normally_up now) = standing_members loaded normally_up now

@@ -7,7 +7,7 @@ ghost use Rattle.cmd_svc.specs.Svstat.{SvstatEnds, fault_name};
 ghost use Rattle.cmd_report.specs.Json.{Adds, asked_members, boolean_member, exiting_member, json_line, look_members};
 ghost use Rattle.cmd_report.specs.Json.{look_tokens, null_member, number_member, phase_member, pid_member};
 ghost use Rattle.cmd_report.specs.Json.{process_members, side_name, standing_members, string_member, unreached_text};
-ghost use Rattle.cmd_report.specs.Json.{want_name};
+ghost use Rattle.cmd_report.specs.Json.{unreached_members, want_name};
 
 use cmd_svc::{LineForm, Look, Observer, Services, Unreached, run_svstat_as};
 use json::Writer;
@@ -102,7 +102,7 @@ fn add_members<A: Allocator>(writer: &mut Writer<A>, look: &Look) -> Result<(), 
     ensures { OnOk result (Adds writer.old writer.new (look_members look.now)) }
 {
     match look {
-        Look::Unreached(why) => add_string(writer, "error", unreached_text(*why)),
+        Look::Unreached(why) => add_unreached(writer, *why),
         Look::Unread => add_string(writer, "error", "unable to read status"),
         Look::Bad(fault) => add_string(writer, "error", bad_text(*fault)),
         Look::Standing {
@@ -110,6 +110,20 @@ fn add_members<A: Allocator>(writer: &mut Writer<A>, look: &Look) -> Result<(), 
             normally_up,
             now,
         } => add_standing(writer, loaded, *normally_up, now),
+    }
+}
+
+/// Writes why nothing is known about a service. One that is not supervised counts as not up.
+#[tactic(auto, unfolding(crate::specs::Json::unreached_members))]
+fn add_unreached<A: Allocator>(writer: &mut Writer<A>, why: Unreached) -> Result<(), AllocError>
+    ensures { OnOk result (Adds writer.old writer.new (unreached_members why)) }
+{
+    match why {
+        Unreached::NotRunning => {
+            add_boolean(writer, "up", false)?;
+            add_string(writer, "error", unreached_text(Unreached::NotRunning))
+        }
+        other => add_string(writer, "error", unreached_text(other)),
     }
 }
 
