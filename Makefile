@@ -31,7 +31,7 @@ PAGES = $(notdir $(wildcard man/*.[1-8])) dtools-formats.5
 # The folders of the wrappers.
 PLACES = $(WRAPPERS) $(if $(filter 1,$(NAMES)),$(BIN))
 # The tools of the system that scripts run, each as an edit of its path.
-USED = env flock getent nice prlimit setpriv setsid sleep
+USED = env flock getent nice prlimit readlink setpriv setsid sleep
 PATHS = $(foreach tool,$(USED),s|/usr/bin/$(tool) |$(or $(if $(TOOLS),$(TOOLS)/$(tool)),$(shell PATH=/usr/bin:/bin:/usr/sbin:/sbin:$$PATH command -v $(tool)),/usr/bin/$(tool)) |g;)
 # A script as it is installed: the paths of the program, of the tools and of the folder of services are absolute.
 SCRIPT = sed '$(PATHS) s|"$${DTOOLS:-dtools}"|$(PREFIX)/bin/dtools|g; s|$${DTOOLS:-dtools}|$(PREFIX)/bin/dtools|g; s|/etc/dtools/service|$(SERVICES)|g' scripts/$(1)

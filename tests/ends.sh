@@ -87,9 +87,20 @@ trap '' TERM
 $(printf %q "$program") multilog ./main
 exec sleep 1000
 END
+# The names of these two are removed while they run.
+service own/removed <<'END'
+trap '' TERM
+while :; do sleep 0.1; done
+END
+service own/removed/log <<'END'
+trap '' TERM
+while :; do sleep 0.1; done
+END
+ln -s ../own/removed d/removed
 begin "$program" svscan d
-soon 'all run' "$program" wait -u d/web d/stubborn d/stubborn/log
+soon 'all run' "$program" wait -u d/web d/stubborn d/stubborn/log d/removed d/removed/log
 svscan=$begun
+rm d/removed
 # As systemd runs it after svscan has ended by itself.
 SERVICE_RESULT=success "$top/scripts/svscan-stop" d 1
 is 'without a main process: status' 0 "$?"

@@ -67,7 +67,7 @@ is 'setuidgid, no right: reported' 'setuidgid: unable to change to the account: 
 
 # The tools of the system are found whatever the PATH that the program is to have; a tool of its name there is not run.
 mkdir -m 755 evil
-for tool in getent id setpriv prlimit flock env nice setsid sh sleep; do printf '#!/bin/sh\necho foreign >&2\nexit 9\n' >evil/$tool; done
+for tool in getent id setpriv prlimit flock env nice readlink setsid sh sleep; do printf '#!/bin/sh\necho foreign >&2\nexit 9\n' >evil/$tool; done
 chmod 755 evil/*
 for words in 'setuidgid nobody' 'setuidgid nosuch' 'envuidgid nobody' 'softlimit -o 50' 'setlock lock' pgrphack; do
   # shellcheck disable=SC2086
@@ -106,7 +106,7 @@ ended 'no limit' 3 '' '' softlimit sh -c 'exit 3'
 show='for limit in AS CORE DATA FSIZE MEMLOCK NOFILE NPROC RSS STACK CPU; do
   set -- $(prlimit --raw --noheadings --output SOFT,HARD --$(echo $limit | tr A-Z a-z)); echo $limit $1 $2; done'
 for words in '-a 900000000' '-c 5000' '-d 90000000' '-f 70000' '-l 30000' '-m 900000000' '-o 20' '-p 900' '-r 8000000' \
-  '-s 4000000' '-t 100' '-o =' '-o 99999999999' '-c 99999999999999999999999' '-m 900000000 -d 80000000 -o 30 -c 0'; do
+  '-s 4000000' '-t 100' '-o =' '-o 99999999999' '-o 9999999999999999999' '-c 99999999999999999999999' '-m 900000000 -d 80000000 -o 30 -c 0'; do
   # shellcheck disable=SC2086
   "$top/scripts/softlimit" $words sh -c "$show" >ours 2>&1
   case $words in
