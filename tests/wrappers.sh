@@ -10,6 +10,7 @@ trap 'rm -rf "$room"' EXIT
 # A copy that every account reaches.
 chmod 755 .
 cp -r "$top/scripts" scripts
+page=$top/man/dtools-softlimit.8
 top=$room
 
 # is_real COMMAND: whether daemontools' own is installed
@@ -81,6 +82,21 @@ is 'setuidgid below -m 3000000' 'it ran' "$(ulimit -S -v 2929 -d 2929 -s 2929; "
 is 'envuidgid below -m 3000000' 'it ran' "$(ulimit -S -v 2929 -d 2929 -s 2929; "$top/scripts/envuidgid" nobody /bin/echo it ran 2>&1)"
 is 'softlimit below -m 3000000' 'it ran' "$(ulimit -S -v 2929 -d 2929 -s 2929; "$top/scripts/softlimit" -o 50 /bin/echo it ran 2>&1)"
 is 'setuidgid below -s 65536' 'it ran' "$(ulimit -S -s 64; "$top/scripts/setuidgid" nobody /bin/echo it ran 2>&1)"
+# The table of dtools-softlimit(8): with its values these two run dtools, too.
+mkdir -m 755 table
+echo yes >table/ROOM
+for wrapper in envdir multilog; do
+  IFS='|' read -r as data stack _ <<<"$(sed -n "s/^\.It $wrapper Ta //p" "$page" | sed 's/ Ta /|/g; s/,//g')"
+  case $wrapper in
+    envdir) words=(table sh -c 'echo "$ROOM"') ;;
+    multilog) words=(=kept) ;;
+  esac
+  for limit in "as=$as" "data=$data" "stack=$stack"; do
+    rm -f kept
+    out=$(echo yes | DTOOLS=$program prlimit "--$limit:" "$top/scripts/$wrapper" "${words[@]}" 2>&1)
+    is "$wrapper below $limit" yes "$out$([ ! -e kept ] || head -n 1 kept)"
+  done
+done
 for words in 'softlimit -o 50' 'envuidgid nobody' pgrphack; do
   # No other process of this account may be started.
   # shellcheck disable=SC2086
