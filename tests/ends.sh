@@ -5,9 +5,16 @@
 top=$(realpath "$(dirname "$0")/..")
 . "$top/tests/checks.sh" "$1"
 groups=()
+# the processes of services that are left: those of the file `numbers` that run in a folder of this script
+left() {
+  local number
+  while read -r number; do
+    case $(readlink "/proc/$number/cwd" 2>/dev/null) in "$room"/*) echo "$number" ;; esac
+  done <numbers
+}
 leave() {
   for group in "${groups[@]}"; do kill_group "$group"; done
-  [ -e numbers ] && xargs kill -KILL <numbers 2>/dev/null
+  cd "$room" && [ -e numbers ] && left | xargs -r kill -KILL 2>/dev/null
   rm -rf "$room"
 }
 trap leave EXIT
@@ -15,10 +22,10 @@ export DTOOLS=$program
 
 # soon NAME COMMAND..: the command succeeds within ten seconds
 soon() {
-  local name=$1
+  local name=$1 seen=
   shift
-  for _ in $(seq 200); do "$@" >/dev/null 2>&1 && break; sleep 0.05; done
-  is "$name" yes "$("$@" >/dev/null 2>&1 && echo yes)"
+  for _ in $(seq 200); do "$@" >/dev/null 2>&1 && { seen=yes; break; }; sleep 0.05; done
+  is "$name" yes "$seen"
 }
 number_of() { "$program" svstat "$1" | sed -n 's/.*up (pid \([0-9]*\)).*/\1/p'; }
 
@@ -109,7 +116,7 @@ SERVICE_RESULT=success MAINPID=$svscan "$top/scripts/svscan-stop" d 1 2>stop.rep
 is 'svscan-stop: status' 0 "$?"
 is 'svscan-stop: reported' '' "$(cat stop.reported)"
 soon 'svscan has ended' bash -c "! kill -0 $svscan"
-is 'no process is left' '' "$(while read -r number; do kill -0 "$number" 2>/dev/null && echo "$number"; done <numbers)"
+is 'no process is left' '' "$(left)"
 is 'its last words are logged' 'last words' "$(tail -n 1 d/stubborn/log/main/current)"
 "$top/scripts/svscan-stop" d 1
 is 'svscan-stop without a svscan' 0 "$?"

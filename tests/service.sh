@@ -23,10 +23,10 @@ ended() {
 
 # soon NAME COMMAND..: the command succeeds within half a minute
 soon() {
-  local name=$1
+  local name=$1 seen=
   shift
-  for _ in $(seq 300); do "$@" >/dev/null 2>&1 && break; sleep 0.1; done
-  is "$name" yes "$("$@" >/dev/null 2>&1 && echo yes)"
+  for _ in $(seq 300); do "$@" >/dev/null 2>&1 && { seen=yes; break; }; sleep 0.1; done
+  is "$name" yes "$seen"
 }
 is_up() { "$program" svstat "$1" | grep -q ': up (pid .*seconds$'; }
 is_served() { "$program" svok "$1"; }
