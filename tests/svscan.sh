@@ -348,6 +348,159 @@ END
   is 'modes' '600 600' "$(stat -c %a d/web/supervise/exit d/web/supervise/counts | xargs)"
   is 'nothing was reported' '' "$(cat reported)"
 }
+# finish FOLDER: gives a service a finish, a script of sh from standard input
+finish() {
+  { echo '#!/bin/sh'; cat; } >"$1/.finish"
+  chmod 755 "$1/.finish"
+  mv "$1/.finish" "$1/finish"
+}
+# the processes of the finishes of a service that live
+finishing() { sort -u "$1/finishes" 2>/dev/null | while read -r number; do lives "$number" && [ "/proc/$number/cwd" -ef "$1" ] && echo "$number"; done; }
+is_finishing() { [ -n "$(finishing "$1")" ]; }
+
+# A finish runs after each death, with how the process ended, and the next process begins after it.
+finishes() {
+  service d/status <<'END'
+echo run >>order
+exit 3
+END
+  finish d/status <<'END'
+echo "finish $*" >>order
+sleep 0.3
+echo "end in $(pwd -P)" >>order
+END
+  sleeper d/web
+  finish d/web <<'END'
+echo $$ >>finishes
+echo "$*" >>words
+while [ ! -e go ]; do sleep 0.05; done
+END
+  echo 0 >d/web/timeout-finish
+  sleeper d/not
+  finish d/not <<'END'
+echo "$*" >>words
+END
+  chmod 644 d/not/finish
+  sleeper d/bad
+  printf '#!/no/such/program\n' >d/bad/finish
+  chmod 755 d/bad/finish
+  service d/pair <<'END'
+echo $$ >>starts
+exec sleep 1000
+END
+  finish d/pair <<'END'
+echo "finish says $*"
+END
+  logger d/pair/log
+  finish d/pair/log <<'END'
+echo "$*" >>words
+END
+  start reported d
+  soon 'up' 10 all_are is_settled d/web d/not d/bad d/pair d/pair/log
+  soon 'some have ended' 10 has_lines 9 d/status/order
+  is 'one after another' "run finish 3 0 end in $(realpath d/status)" "$(head -n 3 d/status/order | paste -sd ' ')"
+  is 'and again' "$(head -n 3 d/status/order)" "$(sed -n '4,6p' d/status/order)"
+  local first finish
+  first=$(process d/web)
+  svc -t d/web
+  soon 'it finishes' 5 is_finishing d/web
+  so 'how it ended is written at once' exit_says "$first signal TERM" d/web
+  is 'with its words' '-1 15' "$(cat d/web/words)"
+  sleep 2.5
+  is 'nothing begins next to it' 1 "$(count d/web/starts)"
+  is 'its end is not reported' "$first" "$(process d/web)"
+  svc -d d/web
+  soon 'd is taken' 3 wants d d/web
+  touch d/web/go
+  soon 'it is down afterwards' 5 is_put_down d/web
+  soon 'as many ended as began' 3 counts_are_even d/web
+  sleep 1.5
+  is 'it stays down' '1 1' "$(count d/web/starts) $(count d/web/words)"
+  svc -u d/web
+  soon 'u' 5 is_settled d/web
+  rm d/web/go
+  svc -k d/web
+  soon 'it finishes again' 5 is_finishing d/web
+  is 'killed' '-1 9' "$(tail -n 1 d/web/words)"
+  touch d/web/go
+  soon 'and starts again' 8 has_lines 3 d/web/starts
+  svc -k d/not d/bad d/pair
+  soon 'one that nobody can execute is none' 8 has_lines 2 d/not/starts
+  is 'so it never ran' no "$(exists d/not/words)"
+  soon 'one that can not be run is reported' 5 holds '^svscan: bad: unable to run ./finish: No such file or directory$' reported
+  soon 'and the service starts again' 8 has_lines 2 d/bad/starts
+  soon 'its output is that of the service' 8 holds '^finish says -1 9$' d/pair/log/main/current
+  svc -t d/pair/log
+  soon 'a logger has its own' 8 holds '^-1 15$' d/pair/log/words
+  is 'nothing else was reported' 1 "$(count reported)"
+  rm d/web/go
+  svc -x d/.svscan
+  soon 'the end of all waits for it' 8 is_finishing d/web
+  so 'svscan is there' lives "$svscan"
+  touch d/web/go
+  soon 'and ends then' 10 is_gone "$svscan"
+}
+
+# A finish gets KILL at the end of its time: 5 seconds, or those of timeout-finish.
+bounded_finish() {
+  local name
+  for name in short bad; do
+    sleeper d/$name
+    finish d/$name <<'END'
+echo $$ >>finishes
+exec sleep 1000
+END
+  done
+  echo 1 >d/short/timeout-finish
+  echo soon >d/bad/timeout-finish
+  start reported d
+  soon 'up' 10 all_are is_settled d/short d/bad
+  svc -k d/short d/bad
+  soon 'both finish' 5 all_are is_finishing d/short d/bad
+  sleep 0.6
+  so 'it has its time' is_finishing d/short
+  soon 'it starts again after its time' 6 has_lines 2 d/short/starts
+  is 'and is gone' '' "$(finishing d/short)"
+  is 'a time that is no number' 'svscan: bad: timeout-finish is no number of seconds: 5 seconds count' "$(cat reported)"
+  so 'does not count' is_finishing d/bad
+  soon '5 seconds do' 10 has_lines 2 d/bad/starts
+  is 'it is gone, too' '' "$(finishing d/bad)"
+  is 'once each' '1 1' "$(count d/short/finishes) $(count d/bad/finishes)"
+}
+
+# svscan is killed while a finish runs: the next one starts nothing until it has ended, and ends it in its time.
+killed_finish() {
+  local name first
+  for name in web late; do
+    sleeper d/$name
+    finish d/$name <<'END'
+echo $$ >>finishes
+while [ ! -e go ]; do sleep 0.05; done
+END
+  done
+  echo 0 >d/web/timeout-finish
+  echo 4 >d/late/timeout-finish
+  start_session reported d
+  soon 'up' 10 all_are is_settled d/web d/late
+  first=$(process d/web)
+  svc -k d/web d/late
+  soon 'both finish' 5 all_are is_finishing d/web d/late
+  kill -KILL "$svscan"
+  soon 'svscan is dead' 3 is_gone "$svscan"
+  so 'a finish runs on' is_finishing d/web
+  start_session reported2 d
+  soon 'it is reported' 10 holds "^svscan: web: process $(finishing d/web) still runs\$" reported2
+  so 'nothing is up' all_are is_down d/web d/late
+  soon 'one whose time is over is ended' 10 has_lines 2 d/late/starts
+  is 'by KILL' '' "$(finishing d/late)"
+  is 'nothing begins next to the other' 1 "$(count d/web/starts)"
+  so 'how the process ended is kept' exit_says "$first signal KILL" d/web
+  touch d/web/go
+  soon 'it starts after its finish' 8 has_lines 2 d/web/starts
+  is 'which ran once' '1 1' "$(count d/web/finishes) $(count d/late/finishes)"
+  soon 'both are up' 8 all_are is_settled d/web d/late
+}
+
 exists() { [ -e "$1" ] && echo yes || echo no; }
 why_says() { timeout 10 "$program" why "$2" | grep -qE "$1"; }
 
@@ -2268,7 +2421,7 @@ play_all() {
   done
 }
 
-scenarios=(life modes_kept exits endings no_run links stubborn killed_service killed_svscan killed_early unnamed starved unwritten new_boot other_user earlier_record elsewhere changes twice names silent
+scenarios=(life modes_kept exits endings finishes bounded_finish killed_finish no_run links stubborn killed_service killed_svscan killed_early unnamed starved unwritten new_boot other_user earlier_record elsewhere changes twice names silent
   connections no_supervise unheard rounds untaken own refused last_words upgraded unread ordered first_process two_services child begins_anew shortage
   descriptors_reported unchanged resting full_disk full_put_down placeless held_locks held_pair many_bytes raised_limit
   odd_environment unreaped bounded_end no_folder folder_away apart)

@@ -7,6 +7,8 @@ use Rattle.svc_left.specs.declared.leftover.Seen.{Seen}
 use Rattle.svc_left.specs.declared.leftover.Intent.{Intent}
 use Rattle.svc_left.specs.declared.leftover.Leftover.{Leftover}
 use Rattle.svc_left.specs.declared.leftover.Leftover.TheVariants.{Nobody, Process, Unsure}
+use Rattle.svc_left.specs.declared.process.Found.{Found}
+use Rattle.svc_left.specs.declared.process.Found.TheVariants.{Lives}
 
 -- the process with this number among these
 abbrev pub process_at : (pid : ℕ) → List Seen → Option Seen
@@ -134,3 +136,18 @@ HasNumber other = ⊤
 abbrev pub numbered : Leftover → Leftover
 numbered (Process pid tick) = if pid == 0 then Nobody else Process pid tick
 numbered other = other
+
+-- What is left over is awaited: no process of it is adopted.
+abbrev pub IsAwaited : Leftover → Type 0
+IsAwaited (Process pid tick) = ⊥
+IsAwaited other = ⊤
+
+-- the same, except that a process is awaited
+abbrev pub awaited : Leftover → Leftover
+awaited (Process pid tick) = Unsure pid
+awaited other = other
+
+-- what is left over of a `finish` whose process became this: it is awaited while it lives
+abbrev pub left_of_finish : Found → Leftover
+left_of_finish (Lives process) = Unsure process.pid
+left_of_finish other = Nobody

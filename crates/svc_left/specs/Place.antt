@@ -1,5 +1,5 @@
 -- The place of a service: the process that was started last, or that one is about to be started, and what is wanted.
-use Rattle.std.specs.Prelude.{◌≡◌, ◌<◌, ◌+◌, ◌^◌, ◌==◌, ◌&&◌, ℕ, Bool, true, false, not, if◌then◌else◌, List, ◌++◌, ◌∷◌, codes}
+use Rattle.std.specs.Prelude.{◌≡◌, ◌<◌, ◌+◌, ◌^◌, ◌==◌, ◌&&◌, ◌||◌, ℕ, Bool, true, false, not, if◌then◌else◌, List, ◌++◌, ◌∷◌, codes}
 use Rattle.std.specs.Prelude.{decimal, length, position, take, Option, Some, None}
 use Rattle.std.specs.Borrow.{Bor}
 use Rattle.tai_status.specs.declared.record.Want.{Want}
@@ -13,9 +13,14 @@ want_number want.Down = 0
 want_number want.Up = 1
 want_number want.Once = 2
 
+-- the same, or 3 more if the start is that of the service's `finish`
+abbrev pub last_number : (is_finish : Bool) → Want → ℕ
+last_number false wanted = want_number wanted
+last_number true wanted = 3 + want_number wanted
+
 -- the line of a place: PID TICK SESSION INIT WANT BOOT, separated by spaces
 abbrev pub place_end : Place → List ℕ
-place_end place = decimal (want_number place.want) ++ codes " " ++ place.boot ++ codes "\n"
+place_end place = decimal (last_number place.is_finish place.want) ++ codes " " ++ place.boot ++ codes "\n"
 
 abbrev pub place_rest : Place → List ℕ
 place_rest place = decimal place.session ++ codes " " ++ decimal place.init ++ codes " " ++ place_end place
@@ -46,28 +51,40 @@ first_line text = line_to (position (λ byte. byte == 10) text) text
 
 -- the place of a service before a start that an svscan with this session intended at this tick
 abbrev pub intending : Place → (tick session : ℕ) → Place
-intending place tick session = record place { pid = 0; tick = tick; session = session }
+intending place tick session = record place { pid = 0; tick = tick; session = session; is_finish = false }
+
+-- the place of a service before a start of its `finish` that an svscan with this session intended at this tick
+abbrev pub finishing : Place → (tick session : ℕ) → Place
+finishing place tick session = record place { pid = 0; tick = tick; session = session; is_finish = true }
 
 -- the place of a service after a start made this process, which began at this tick
 abbrev pub occupied : Place → (pid tick : ℕ) → Place
 occupied place pid tick = record place { pid = pid; tick = tick }
 
--- the place of a service after a start made no process
+-- the place of a service after a start made no process, or after its `finish` ended
 abbrev pub vacated : Place → Place
-vacated place = record place { pid = 0; tick = 0 }
+vacated place = record place { pid = 0; tick = 0; is_finish = false }
 
 -- the place of a service with this wanted
 abbrev pub wanting : Place → Want → Place
 wanting place want = record place { want = want }
 
--- whether a start was intended, and its process is not known
+-- whether something of this start may run that is not the service's own recorded process
 abbrev pub is_intent : Place → Bool
-is_intent place = (place.pid == 0) && not (place.tick == 0)
+is_intent place = place.is_finish || ((place.pid == 0) && not (place.tick == 0))
 
--- the process in a place
-abbrev pub process_in : Place → Option ProcessId
-process_in place =
+-- the process in a place: the service's own, or its `finish`
+abbrev pub occupant_in : Place → Option ProcessId
+occupant_in place =
     if place.pid == 0 then None else Some (record { pid = place.pid; tick = place.tick; boot = place.boot })
+
+-- the service's own process in a place
+abbrev pub process_in : Place → Option ProcessId
+process_in place = if place.is_finish then None else occupant_in place
+
+-- the process of the service's `finish` in a place
+abbrev pub finish_in : Place → Option ProcessId
+finish_in place = if place.is_finish then occupant_in place else None
 
 -- Both are from one run of the system: they have the same boot, and the same first process in it.
 pub record AreOfOneRun (place here : Place) : Type 0 where

@@ -8,6 +8,8 @@ ghost use Rattle.svc_left.specs.Leftover.{parent_in, process_at};
 ghost use Rattle.svc_left.specs.Leftover.{topmost, without_root};
 ghost use Rattle.svc_left.specs.declared.leftover.TheConstants.{GENERATIONS};
 
+use crate::process::Found;
+
 /// How many generations of ancestors are examined.
 const GENERATIONS: usize = 256;
 
@@ -61,7 +63,34 @@ pub enum Leftover {
 
 impl Leftover {
     ghost use Rattle.std.specs.Prelude.{◌≡◌};
-    ghost use Rattle.svc_left.specs.Leftover.{HasNumber, numbered};
+    ghost use Rattle.svc_left.specs.Leftover.{HasNumber, IsAwaited, awaited, left_of_finish, numbered};
+    ghost use Rattle.svc_left.specs.Process.{IsLiving};
+
+    /// Returns what is left over of a `finish` whose process became this.
+    pub fn of_finish(found: Found) -> Leftover
+        requires { IsLiving found }
+        ensures left { result ≡ left_of_finish found }
+        ensures awaited { IsAwaited result }
+        ensures number { HasNumber result }
+    {
+        match found {
+            Found::Lives(process) => Leftover::Unsure(process.pid),
+            Found::Gone | Found::Unknown => Leftover::Nobody,
+        }
+    }
+
+    /// Returns the same, except that a process is awaited and never adopted.
+    pub fn awaited(self) -> Leftover
+        requires { HasNumber self }
+        ensures same { result ≡ awaited self }
+        ensures awaited { IsAwaited result }
+        ensures number { HasNumber result }
+    {
+        match self {
+            Leftover::Process(pid, _) => Leftover::Unsure(pid),
+            found => found,
+        }
+    }
 
     /// Returns the same, except that a process without a number counts as nobody.
     pub fn numbered(self) -> Leftover

@@ -1,7 +1,8 @@
 //! The place of a service: the process that was started last, or that one is about to be started, and what is wanted.
+//! While the service's `finish` runs, the place has this process.
 ghost use Rattle.std.specs.Prelude.{◌≡◌, ◌<◌, ◌^◌, ◌++◌, ◌∷◌, ℕ, List, IsSomeAnd, codes, decimal, length, position, ◌==◌};
 ghost use Rattle.std.specs.Prelude.{Some, IfSome};
-ghost use Rattle.svc_left.specs.Place.{AreTwo, IsPlace, first_line, place_line, want_number};
+ghost use Rattle.svc_left.specs.Place.{AreTwo, IsPlace, first_line, last_number, place_line};
 ghost use Rattle.tai_status.specs.declared.record.Want.{Want};
 ghost use Rattle.svc_left.specs.declared.place.Place.{Place};
 
@@ -15,7 +16,8 @@ pub const PLACE_BYTES: usize = 160;
 /// A line of at most 160 bytes.
 pub type PlaceLine = ArrayVec<u8, PLACE_BYTES>;
 
-/// The content of a service's file `supervise/place`. It is written before a process of the service begins.
+/// The content of a service's file `supervise/place`. It is written before a process of the service begins, and before
+/// its `finish` begins.
 #[derive(Clone, Copy, Debug, PartialEq, Eq)]
 pub struct Place {
     /// The number of the process that was started last. It is 0 if the number is not known, or if there is no process.
@@ -29,34 +31,44 @@ pub struct Place {
     pub init: u64,
     /// What is wanted of the service.
     pub want: Want,
+    /// Whether the start is that of the service's `finish`. `finish` runs after the service's own process died.
+    pub is_finish: bool,
     /// The boot.
     pub boot: BootId,
 }
 
-/// Returns the number of a wanted state.
-fn want_number(want: Want) -> u64
-    ensures { result ≡ want_number want }
+/// Returns the number for a wanted state, and whether the start is that of `finish`.
+fn last_number(is_finish: bool, want: Want) -> u64
+    ensures { result ≡ last_number is_finish want }
 {
-    match want {
-        Want::Down => 0,
-        Want::Up => 1,
-        Want::Once => 2,
+    match (is_finish, want) {
+        (false, Want::Down) => 0,
+        (false, Want::Up) => 1,
+        (false, Want::Once) => 2,
+        (true, Want::Down) => 3,
+        (true, Want::Up) => 4,
+        (true, Want::Once) => 5,
     }
 }
 
-/// Returns the wanted state with this number.
-fn want_of(number: u64) -> Option<Want>
-    ensures { (want : Want) → number ≡ want_number want → result ≡ Some want }
+/// Returns what has this number: whether the start is that of `finish`, and the wanted state.
+fn read_last(number: u64) -> Option<(bool, Want)>
+    ensures { (is_finish : Bool) (want : Want) → number ≡ last_number is_finish want
+        → result ≡ Some (is_finish, want) }
 {
     match number {
-        0 => Some(Want::Down),
-        1 => Some(Want::Up),
-        2 => Some(Want::Once),
+        0 => Some((false, Want::Down)),
+        1 => Some((false, Want::Up)),
+        2 => Some((false, Want::Once)),
+        3 => Some((true, Want::Down)),
+        4 => Some((true, Want::Up)),
+        5 => Some((true, Want::Once)),
         _ => None,
     }
 }
 
-/// Returns the line of a place, with its newline: `PID TICK SESSION INIT WANT BOOT`.
+/// Returns the line of a place, with its newline: `PID TICK SESSION INIT WANT BOOT`. If the start is that of `finish`,
+/// WANT is 3 more.
 pub fn place_line(place: &Place) -> PlaceLine
     ensures { result.items ≡ place_line place.now }
 {
@@ -65,7 +77,7 @@ pub fn place_line(place: &Place) -> PlaceLine
     push_number(&mut line, place.tick);
     push_number(&mut line, place.session);
     push_number(&mut line, place.init);
-    push_number(&mut line, want_number(place.want));
+    push_number(&mut line, last_number(place.is_finish, place.want));
     line.try_extend_from_slice(&place.boot).unwrap();
     line.push(b'\n');
     line
@@ -100,14 +112,15 @@ fn split_two(text: &[u8]) -> Option<(u64, u64, &[u8])>
     Some((first, second, rest))
 }
 
-/// Reads the wanted state and the boot at the end of a text.
-fn read_end(text: &[u8]) -> Option<(Want, BootId)>
-    ensures only { (want : Want) (boot : List ℕ) → length boot ≡ 36
-        → text.now ≡ decimal (want_number want) ++ 32 ∷ (boot ++ codes "\n") → result ≡ Some (want, boot) }
+/// Reads the end of a place's line: whether the start is that of `finish`, the wanted state, and the boot.
+fn read_end(text: &[u8]) -> Option<(bool, Want, BootId)>
+    ensures only { (is_finish : Bool) (want : Want) (boot : List ℕ) → length boot ≡ 36
+        → text.now ≡ decimal (last_number is_finish want) ++ 32 ∷ (boot ++ codes "\n")
+        → result ≡ Some (is_finish, want, boot) }
 {
     let (number, rest) = split_number(text)?;
-    let want = want_of(number)?;
-    Some((want, read_boot(rest)?))
+    let (is_finish, want) = read_last(number)?;
+    Some((is_finish, want, read_boot(rest)?))
 }
 
 /// Returns the only place that can have this line.
@@ -116,7 +129,7 @@ fn place_meant(text: &[u8]) -> Option<Place>
 {
     let (pid, tick, rest) = split_two(text)?;
     let (session, init, rest) = split_two(rest)?;
-    let (want, boot) = read_end(rest)?;
+    let (is_finish, want, boot) = read_end(rest)?;
     let pid = u32::try_from(pid).ok()?;
     Some(Place {
         pid,
@@ -124,6 +137,7 @@ fn place_meant(text: &[u8]) -> Option<Place>
         session,
         init,
         want,
+        is_finish,
         boot,
     })
 }
@@ -143,8 +157,8 @@ pub fn read_place(text: &[u8]) -> Option<Place>
 
 impl Place {
     ghost use Rattle.std.specs.Prelude.{◌≡◌, ◌<◌, ◌↔◌, IsTrue, IfSome};
-    ghost use Rattle.svc_left.specs.Place.{AreOfOneRun, intending, is_intent, is_unknown, occupied, process_in, vacated};
-    ghost use Rattle.svc_left.specs.Place.{wanting};
+    ghost use Rattle.svc_left.specs.Place.{AreOfOneRun, finish_in, finishing, intending, is_intent, is_unknown, occupant_in};
+    ghost use Rattle.svc_left.specs.Place.{occupied, process_in, vacated, wanting};
 
     /// Returns the place before a start that an svscan with this session intended at this tick.
     pub fn intending(&self, tick: u64, session: u64) -> Place
@@ -154,6 +168,20 @@ impl Place {
             pid: 0,
             tick,
             session,
+            is_finish: false,
+            ..*self
+        }
+    }
+
+    /// Returns the place before a start of `finish` that an svscan with this session intended at this tick.
+    pub fn finishing(&self, tick: u64, session: u64) -> Place
+        ensures { result ≡ finishing self.now tick session }
+    {
+        Place {
+            pid: 0,
+            tick,
+            session,
+            is_finish: true,
             ..*self
         }
     }
@@ -165,13 +193,14 @@ impl Place {
         Place { pid, tick, ..*self }
     }
 
-    /// Returns the place after a start made no process: no start is intended any more.
+    /// Returns the place after a start made no process, or after `finish` ended: no start is intended any more.
     pub fn vacated(&self) -> Place
         ensures { result ≡ vacated self.now }
     {
         Place {
             pid: 0,
             tick: 0,
+            is_finish: false,
             ..*self
         }
     }
@@ -197,16 +226,17 @@ impl Place {
         Place { want, ..*self }
     }
 
-    /// Returns whether a start was intended, and its process is not known.
+    /// Returns whether something of this start may run without being the service's own recorded process: a start was
+    /// intended, and its process is not known, or the start is that of `finish`.
     pub fn is_intent(&self) -> bool
         ensures { result ≡ is_intent self.now }
     {
-        self.pid == 0 && self.tick != 0
+        self.is_finish || self.pid == 0 && self.tick != 0
     }
 
-    /// Returns the process in the place.
-    pub fn process(&self) -> Option<ProcessId>
-        ensures process { result ≡ process_in self.now }
+    /// Returns the process in the place: the service's own, or its `finish`.
+    pub fn occupant(&self) -> Option<ProcessId>
+        ensures process { result ≡ occupant_in self.now }
         ensures number { IfSome result (λ process. 0 < process.pid) }
     {
         if self.pid == 0 {
@@ -217,6 +247,25 @@ impl Place {
             tick: self.tick,
             boot: self.boot,
         })
+    }
+
+    /// Returns the service's own process in the place.
+    pub fn process(&self) -> Option<ProcessId>
+        ensures process { result ≡ process_in self.now }
+        ensures number { IfSome result (λ process. 0 < process.pid) }
+    {
+        if self.is_finish {
+            return None;
+        }
+        self.occupant()
+    }
+
+    /// Returns the process of `finish` in the place.
+    pub fn finish(&self) -> Option<ProcessId>
+        ensures process { result ≡ finish_in self.now }
+        ensures number { IfSome result (λ process. 0 < process.pid) }
+    {
+        if self.is_finish { self.occupant() } else { None }
     }
 
     /// Returns whether both are from one run of the system: they have the same boot and the same first process.

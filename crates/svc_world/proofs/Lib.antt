@@ -1,3 +1,4 @@
 pub mod Fronts
 pub mod Lefts
 pub mod Shells
+pub mod Seconds

@@ -2,6 +2,7 @@
 use Rattle.std.specs.Prelude.{ℕ, Bool, List, Option}
 use Rattle.tai_status.specs.Label.{Tai64n}
 use Rattle.sup_core.specs.declared.asks.Sig.{Sig}
+use Rattle.svc_exit.specs.declared.exit.Exit.{Exit}
 use Rattle.svc_left.specs.declared.place.Place.{Place}
 use Rattle.svc_left.specs.declared.leftover.Leftover.{Leftover}
 use Rattle.svc_world.specs.declared.begin.Death.{Death}
@@ -21,6 +22,9 @@ use Rattle.svc_world.specs.declared.paper.Remark.{Remark}
 -- - The tick at which the process with this number began was sought.
 -- - The present tick was read.
 -- - The clock was read.
+-- - It was sought whether the service has a `finish`.
+-- - A `finish` was spawned after this end and got this number, or could not be made.
+-- - It was sought whether a `finish` that began at this tick has run for as long as it may.
 pub data Call : Type 0 where
   Spawned : (child : Option ℕ) → Call
   SoughtDeath : (death : Option Death) → Call
@@ -33,3 +37,6 @@ pub data Call : Type 0 where
   SoughtTick : (pid : ℕ) → (tick : Option ℕ) → Call
   ReadTick : (tick : ℕ) → Call
   ReadClock : (label : Tai64n) → Call
+  SoughtFinish : (has : Bool) → Call
+  SpawnedFinish : (exit : Exit) → (child : Option ℕ) → Call
+  SoughtLate : (tick : ℕ) → (late : Bool) → Call

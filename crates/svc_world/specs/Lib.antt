@@ -4,6 +4,7 @@ pub mod Commands
 pub mod Shell
 pub mod Stats
 pub mod Left
+pub mod Finish
 pub mod Flow
 pub mod Owed
 pub mod Linger

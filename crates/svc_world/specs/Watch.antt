@@ -8,6 +8,7 @@ use Rattle.tai_status.specs.declared.loading.Loaded.{Loaded}
 use Rattle.tai_status.specs.declared.record.RecordFault.{RecordFault}
 use Rattle.tai_status.specs.declared.record.Want.{Want}
 use Rattle.sup_core.specs.declared.asks.Sig.{Sig}
+use Rattle.sup_core.specs.declared.asks.Sig.TheVariants as sig
 use Rattle.svc_house.specs.declared.call.StartAnswer.{StartAnswer}
 use Rattle.svc_house.specs.declared.call.StartAnswer.TheVariants.{Started, Failed}
 use Rattle.svc_house.specs.Calls.{ExtendedWhileKept}
@@ -16,13 +17,15 @@ use Rattle.svc_exit.specs.Exits.{exit_text}
 use Rattle.svc_exit.specs.declared.counts.Counts.{Counts}
 use Rattle.svc_exit.specs.Counts.{counts_text, no_counts, one_ended, one_started}
 use Rattle.svc_left.specs.Process.{process_line}
-use Rattle.svc_left.specs.Place.{intending, occupied, place_line, process_in, vacated, wanting}
+use Rattle.svc_left.specs.Place.{finish_in, finishing, intending, occupied, place_line, process_in, vacated, wanting}
+use Rattle.svc_left.specs.Leftover.{IsAwaited}
+use Rattle.svc_left.specs.declared.process.ProcessId.{ProcessId}
 use Rattle.svc_left.specs.declared.place.Place.{Place}
 use Rattle.svc_left.specs.declared.leftover.Leftover.{Leftover}
 use Rattle.svc_left.specs.declared.leftover.Leftover.TheVariants.{Nobody, Process, Unsure}
 use Rattle.svc_world.specs.declared.begin.Death.{Death}
 use Rattle.svc_world.specs.declared.begin.LastChild.{LastChild}
-use Rattle.svc_world.specs.declared.begin.LastChild.TheVariants.{Gone, Alive, Dead}
+use Rattle.svc_world.specs.declared.begin.LastChild.TheVariants.{Gone, Alive, Dead, Finishing, Ended}
 use Rattle.svc_world.specs.declared.paper.Owed.{Owed}
 use Rattle.svc_world.specs.declared.paper.Paper.{Paper}
 use Rattle.svc_world.specs.declared.paper.Paper.TheVariants as paper
@@ -30,7 +33,7 @@ use Rattle.svc_world.specs.declared.paper.Remark.{Remark}
 use Rattle.svc_world.specs.declared.paper.Remark.TheVariants.{StillRuns, Unwritten, AllWritten}
 use Rattle.svc_world.specs.Owed.{first_owed, is_owed, nothing_owed, with_owed}
 use Rattle.svc_world.specs.Calls.{Call, Spawned, SoughtDeath, Lingered, Signalled, Wrote, Said, SoughtLeftover, Adopted}
-use Rattle.svc_world.specs.Calls.{SoughtTick, ReadTick, ReadClock}
+use Rattle.svc_world.specs.Calls.{SoughtTick, ReadTick, ReadClock, SoughtFinish, SpawnedFinish, SoughtLate}
 
 pub record Watch : Type 0 where
   -- what was asked of the system, while that is recorded
@@ -142,12 +145,13 @@ pub record Mends (old new : Watch) : Type 0 where
 -- Starts
 
 -- What is left over from the start that an earlier svscan intended was sought, if that is open. It stays open while it
--- is not sure what is left over.
+-- is not sure what is left over. If that start was of the service's `finish`, no process is adopted.
 abbrev pub stays_open : Leftover → Bool
 stays_open (Unsure pid) = true
 stays_open other = false
 
 pub record SoughtOpen (found : Leftover) (old new : Watch) : Type 0 where
+  pub awaited : old.place.is_finish ≡ true → IsAwaited found
   pub calls : ExtendedWhileKept old.calls new.calls (SoughtLeftover old.place found ∷ [])
   pub stands : new ≡ record old { calls = new.calls; is_open = stays_open found }
 
@@ -254,12 +258,35 @@ pub record TakesUp (pid tick : ℕ) (label : Tai64n) (old new : Watch) : Type 0 
   pub adopts : Adopts pid tick old adopted
   pub records : RecordsStart (Some pid) (answered (Some pid) label adopted) new
 
--- How a start continues, by what is left over: the service is run; or the process left over is adopted; or it is said
--- that this process may still run, and the start fails.
+-- what is sent to a `finish` with this number, if its time is over
+abbrev pub killed : (late : Bool) (pid : ℕ) → List Call
+killed false pid = []
+killed true pid = Signalled sig.KILL pid ∷ []
+
+-- It was sought whether the time of this `finish` is over. Only if it is, the process gets KILL.
+pub record KillsIfLate (process : ProcessId) (old new : Watch) : Type 0 where
+  pub late : Bool
+  pub calls : ExtendedWhileKept old.calls new.calls (SoughtLate process.tick late ∷ killed late process.pid)
+  pub stands : new ≡ record old { calls = new.calls }
+
+-- The `finish` in the place gets KILL if its time is over.
+abbrev pub Bounds : (finish : Option ProcessId) (old new : Watch) → Type 0
+Bounds None old new = new ≡ old
+Bounds (Some process) old new = KillsIfLate process old new
+
+-- No process is spawned, since this one may still run: this is said, and the start fails. If it is a `finish`, it gets
+-- KILL if its time is over.
+pub record Waits (pid : ℕ) (label : Tai64n) (old new : Watch) : Type 0 where
+  pub said : Watch
+  pub says : Says (StillRuns pid) (answered None label old) said
+  pub bounds : Bounds (finish_in old.place) said new
+
+-- How a start continues, by what is left over: the service is run; or the process left over is adopted; or the start
+-- fails, since this process may still run.
 abbrev pub StartsBy : Leftover → (label : Tai64n) (old new : Watch) → Type 0
 StartsBy Nobody label old new = Runs label old new
 StartsBy (Process pid tick) label old new = TakesUp pid tick label old new
-StartsBy (Unsure pid) label old new = Says (StillRuns pid) (answered None label old) new
+StartsBy (Unsure pid) label old new = Waits pid label old new
 
 -- A start: what is left over from an earlier one is sought, if that is open; the clock is read; and the start continues
 -- by what was found.
@@ -308,19 +335,13 @@ pub record ReportsDeath (exit : Exit) (old new : Watch) : Type 0 where
   pub exit_written : Writes paper.Exit (exit_text exit) (bereft exit old) mid
   pub counts_written : Writes paper.Counts (counts_text (one_ended old.counts)) mid new
 
--- The death of the child was sought, and there was none.
-pub record LivesOn (death : Option Tai64n) (old new : Watch) : Type 0 where
-  pub reported : death ≡ None
-  pub calls : ExtendedWhileKept old.calls new.calls (SoughtDeath None ∷ [])
-  pub stands : new ≡ record old { calls = new.calls }
+-- a world whose child has ended, with its `finish`, and the death is not reported yet
+abbrev pub with_end : Exit → Watch → Watch
+with_end exit w = record w { child = Ended exit }
 
--- a world whose child is dead, and the death is not reported yet
-abbrev pub with_death : Exit → Watch → Watch
-with_death exit w = record w { child = Dead exit }
-
--- A known death is kept while control bytes come, and otherwise reported.
+-- A death whose `finish` is over is kept while control bytes come, and otherwise reported.
 abbrev pub KeepsOrReports : (waits : Bool) → Exit → (death : Option Tai64n) (old new : Watch) → Type 0
-KeepsOrReports true exit death old new = (death ≡ None) × (new ≡ with_death exit old)
+KeepsOrReports true exit death old new = (death ≡ None) × (new ≡ with_end exit old)
 KeepsOrReports false exit death old new = (death ≡ Some exit.label) × ReportsDeath exit old new
 
 -- It was asked once whether a death waits.
@@ -328,31 +349,129 @@ pub record AsksLinger (waits : Bool) (old new : Watch) : Type 0 where
   pub calls : ExtendedWhileKept old.calls new.calls (Lingered waits ∷ [])
   pub stands : new ≡ record old { calls = new.calls }
 
--- A death is known: it is asked once whether it waits.
+-- A death is known, and its `finish` is over: it is asked once whether it waits.
 pub record KnowsDeath (exit : Exit) (death : Option Tai64n) (old new : Watch) : Type 0 where
   pub waits : Bool
   pub asked : Watch
   pub asks : AsksLinger waits old asked
   pub does : KeepsOrReports waits exit death asked new
 
+-- Finishes
+
+-- It was sought once whether the service has a `finish`.
+pub record SeeksFinish (has : Bool) (old new : Watch) : Type 0 where
+  pub calls : ExtendedWhileKept old.calls new.calls (SoughtFinish has ∷ [])
+  pub stands : new ≡ record old { calls = new.calls }
+
+-- a world whose child ended this way
+abbrev pub with_exit : Exit → Watch → Watch
+with_exit exit w = record w { exit = Some exit }
+
+-- The intent to start a `finish` was to be written into the place, once, and was or was not.
+pub record IntendsFinish (written : Bool) (old new : Watch) : Type 0 where
+  pub tick : ℕ
+  pub timed : Watch
+  pub reads : ReadsTick tick old timed
+  pub writes : WritesAs paper.Place (place_line (finishing timed.place tick timed.session)) written
+      (with_place (finishing timed.place tick timed.session) timed) new
+
+-- One `finish` was spawned, with how the child ended, if the intent is in the place, and none otherwise.
+pub record SpawnsFinish (exit : Exit) (child : Option ℕ) (old new : Watch) : Type 0 where
+  pub calls : ExtendedWhileKept old.calls new.calls (SpawnedFinish exit child ∷ [])
+  pub stands : new ≡ record old { calls = new.calls }
+
+abbrev pub SpawnsFinishIf : (intended : Bool) (exit : Exit) (child : Option ℕ) (old new : Watch) → Type 0
+SpawnsFinishIf false exit child old new = (child ≡ None) × (new ≡ old)
+SpawnsFinishIf true exit child old new = SpawnsFinish exit child old new
+
+-- The death of the last child was sought, once.
+pub record AsksDeath (death : Option Death) (old new : Watch) : Type 0 where
+  pub calls : ExtendedWhileKept old.calls new.calls (SoughtDeath death ∷ [])
+  pub stands : new ≡ record old { calls = new.calls }
+
+-- A `finish` is over: the place says so, and from then on the death is as one without a `finish`.
+pub record EndsFinish (exit : Exit) (death : Option Tai64n) (old new : Watch) : Type 0 where
+  pub vacant : Watch
+  pub vacates : Vacates old vacant
+  pub knows : KnowsDeath exit death vacant new
+
+-- a world whose child ended this way, and whose `finish` runs
+abbrev pub with_finish : Exit → Watch → Watch
+with_finish exit w = record w { child = Finishing exit }
+
+-- How a death continues, by the `finish` that was made: without one, it is over; otherwise its process was recorded,
+-- and no death is reported.
+abbrev pub FinishesBy : (child : Option ℕ) → Exit → (death : Option Tai64n) (old new : Watch) → Type 0
+FinishesBy None exit death old new = EndsFinish exit death old new
+FinishesBy (Some pid) exit death old new = (death ≡ None) × RecordsProcess pid (with_finish exit old) new
+
+-- A `finish` begins: how the child ended was to be written first, then the intent, and only if that was written, one
+-- child was spawned.
+pub record BeginsFinish (exit : Exit) (death : Option Tai64n) (old new : Watch) : Type 0 where
+  pub written : Bool
+  pub child : Option ℕ
+  pub noted : Watch
+  pub intended : Watch
+  pub spawned : Watch
+  pub notes : Writes paper.Exit (exit_text exit) (with_exit exit old) noted
+  pub intends : IntendsFinish written noted intended
+  pub spawns : SpawnsFinishIf written exit child intended spawned
+  pub finishes : FinishesBy child exit death spawned new
+
+abbrev pub FinishesIf : (has : Bool) → Exit → (death : Option Tai64n) (old new : Watch) → Type 0
+FinishesIf false exit death old new = KnowsDeath exit death old new
+FinishesIf true exit death old new = BeginsFinish exit death old new
+
+-- A death was found: it was sought once whether the service has a `finish`, which then begins.
+pub record LearnsDeath (exit : Exit) (death : Option Tai64n) (old new : Watch) : Type 0 where
+  pub has : Bool
+  pub sought : Watch
+  pub seeks : SeeksFinish has old sought
+  pub finishes : FinishesIf has exit death sought new
+
+-- The end of a `finish` was sought, and it still runs. It gets KILL if its time is over.
+pub record FinishRuns (death : Option Tai64n) (old new : Watch) : Type 0 where
+  pub sought : Watch
+  pub reported : death ≡ None
+  pub asks : AsksDeath None old sought
+  pub bounds : Bounds (finish_in sought.place) sought new
+
+-- The end of a `finish` was sought and found.
+pub record FinishEnded (exit : Exit) (death : Option Tai64n) (old new : Watch) : Type 0 where
+  pub ended : Death
+  pub sought : Watch
+  pub asks : AsksDeath (Some ended) old sought
+  pub ends : EndsFinish exit death sought new
+
+-- The end of a `finish` was sought: it still runs, or it has ended.
+abbrev pub SeeksEnd : Exit → (death : Option Tai64n) (old new : Watch) → Type 0
+SeeksEnd exit death old new = FinishRuns death old new ⊎ FinishEnded exit death old new
+
+-- The death of the child was sought, and there was none.
+pub record LivesOn (death : Option Tai64n) (old new : Watch) : Type 0 where
+  pub reported : death ≡ None
+  pub asks : AsksDeath None old new
+
 -- The death of the child with this number was sought and found.
 pub record FindsDeath (pid : ℕ) (death : Option Tai64n) (old new : Watch) : Type 0 where
   pub died : Death
   pub sought : Watch
-  pub calls : ExtendedWhileKept old.calls sought.calls (SoughtDeath (Some died) ∷ [])
-  pub same : sought ≡ record old { calls = sought.calls }
-  pub knows : KnowsDeath (exit_of pid died) death sought new
+  pub asks : AsksDeath (Some died) old sought
+  pub learns : LearnsDeath (exit_of pid died) death sought new
 
 -- The death of a child was sought: there was none, or it was found.
 abbrev pub SeeksDeath : (pid : ℕ) (death : Option Tai64n) (old new : Watch) → Type 0
 SeeksDeath pid death old new = LivesOn death old new ⊎ FindsDeath pid death old new
 
 -- What a poll for a death reports: one that was found already, or otherwise what the system finds for a child that
--- lives. Each death is reported once, and only when it no longer waits for control bytes.
+-- lives. Each death is reported once, only after the service's `finish` is over, and only when it no longer waits for
+-- control bytes.
 abbrev pub PollsDeath : LastChild → (death : Option Tai64n) → (old new : Watch) → Type 0
 PollsDeath Gone death old new = (death ≡ None) × (new ≡ old)
-PollsDeath (Dead exit) death old new = KnowsDeath exit death old new
 PollsDeath (Alive pid) death old new = SeeksDeath pid death old new
+PollsDeath (Dead exit) death old new = LearnsDeath exit death old new
+PollsDeath (Finishing exit) death old new = SeeksEnd exit death old new
+PollsDeath (Ended exit) death old new = KnowsDeath exit death old new
 
 -- Records
 

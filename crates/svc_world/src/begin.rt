@@ -16,8 +16,12 @@ pub enum LastChild {
     Gone,
     /// It has this number, and its death is not known yet.
     Alive(u32),
-    /// Its death was found, and is not reported yet.
+    /// Its death was found, and nothing was done about it yet.
     Dead(Exit),
+    /// It died, and the service's `finish` runs.
+    Finishing(Exit),
+    /// It died, its `finish` has ended or there is none, and its death is not reported yet.
+    Ended(Exit),
 }
 
 impl Death {

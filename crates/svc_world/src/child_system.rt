@@ -2,17 +2,19 @@
 use crate::begin::Death;
 use crate::paper::{Paper, Remark};
 use sup_core::Sig;
+use svc_exit::Exit;
 use svc_left::{Leftover, Place};
 use tai_status::Label;
 
 /// The children, papers and clock of one service. Contracts see the calls and their results, in order (`calls`), while
 /// they are recorded. A system that has no memory for more calls stops recording them, and does not resume.
 pub trait ChildSystem {
-    ghost use Rattle.std.specs.Prelude.{◌<◌, ◌≤◌, Option, None, List, [], ◌∷◌, IfSome, length};
+    ghost use Rattle.std.specs.Prelude.{◌≡◌, ◌<◌, ◌≤◌, true, Option, None, List, [], ◌∷◌, IfSome, length};
     ghost use Rattle.svc_house.specs.Calls.{ExtendedWhileKept};
     ghost use Rattle.svc_world.specs.Calls.{Call, Spawned, SoughtDeath, Lingered, Signalled, Wrote, Said};
     ghost use Rattle.svc_world.specs.Calls.{SoughtLeftover, Adopted, SoughtTick, ReadTick, ReadClock};
-    ghost use Rattle.svc_left.specs.Leftover.{HasNumber};
+    ghost use Rattle.svc_world.specs.Calls.{SoughtFinish, SpawnedFinish, SoughtLate};
+    ghost use Rattle.svc_left.specs.Leftover.{HasNumber, IsAwaited};
 
     ghost calls: { Self → Option (List Call) } = { λ _. None };
 
@@ -21,8 +23,22 @@ pub trait ChildSystem {
         ensures calls { ExtendedWhileKept (calls self.old) (calls self.new) (Spawned result ∷ []) }
         ensures number { IfSome result (λ pid. 0 < pid) };
 
-    /// Returns how and when the last child, or the adopted process, died, once it has died. Each death is reported
-    /// once.
+    /// Returns whether the service has a `finish` that can be executed.
+    fn has_finish(&mut self) -> bool
+        ensures calls { ExtendedWhileKept (calls self.old) (calls self.new) (SoughtFinish result ∷ []) };
+
+    /// Makes a child that runs the service's `finish` after its process ended this way, and returns its number. Returns
+    /// None if no child could be made.
+    fn finish(&mut self, exit: &Exit) -> Option<u32>
+        ensures calls { ExtendedWhileKept (calls self.old) (calls self.new) (SpawnedFinish exit.now result ∷ []) }
+        ensures number { IfSome result (λ pid. 0 < pid) };
+
+    /// Returns whether a `finish` that began at this tick of the kernel's clock has run for as long as it may.
+    fn is_late(&mut self, tick: u64) -> bool
+        ensures calls { ExtendedWhileKept (calls self.old) (calls self.new) (SoughtLate tick result ∷ []) };
+
+    /// Returns how and when the last child, or the adopted process, died, once it has died. The last child may be a
+    /// `finish`. Each death is reported once.
     fn death(&mut self) -> Option<Death>
         ensures calls { ExtendedWhileKept (calls self.old) (calls self.new) (SoughtDeath result ∷ []) };
 
@@ -46,9 +62,10 @@ pub trait ChildSystem {
     fn say(&mut self, remark: Remark)
         ensures calls { ExtendedWhileKept (calls self.old) (calls self.new) (Said remark ∷ []) };
 
-    /// Returns what is left over from the start that this place intends.
+    /// Returns what is left over from the start that this place intends. A `finish` is awaited, and never adopted.
     fn leftover(&mut self, place: &Place) -> Leftover
         ensures calls { ExtendedWhileKept (calls self.old) (calls self.new) (SoughtLeftover place.now result ∷ []) }
+        ensures awaited { place.now.is_finish ≡ true → IsAwaited result }
         ensures number { HasNumber result };
 
     /// Adopts the process with this number, which began at this tick: from now on `death` looks for its death.

@@ -3,15 +3,15 @@
 //! A call of the file system keeps its path on the stack, with room for the longest path, and the thread of a service
 //! never gives back the stack that it has touched. Each function that makes such calls therefore has a frame of its
 //! own, which is gone before the next call.
-ghost use Rattle.std.specs.Prelude.{◌≡◌, ◌<◌, ◌≤◌, ◌↔◌, IsTrue, Some, length, option_copied, IfSome};
+ghost use Rattle.std.specs.Prelude.{◌≡◌, ◌<◌, ◌≤◌, ◌↔◌, true, IsTrue, Some, length, option_copied, IfSome};
 ghost use Rattle.svc_world.specs.Commands.{process_in};
 ghost use Rattle.svc_world.specs.Left.{IsFoundIn, IsOfBoot, IsOneFile, found_over, is_starting_in, placed};
-ghost use Rattle.svc_left.specs.Leftover.{HasNumber};
+ghost use Rattle.svc_left.specs.Leftover.{HasNumber, IsAwaited};
 ghost use Rattle.svc_left.specs.Process.{IsLiving};
 
 use crate::neighbours::Near;
 use crate::processes::{OwnRun, path_of_process, read_front, see_all, tick_of};
-use arrayvec::ArrayString;
+use arrayvec::{ArrayString, ArrayVec};
 use cmd_base::{StatusFront, path_by_descriptor, read_status_front};
 use mio::net::UnixListener;
 use std::alloc::Global;
@@ -37,6 +37,12 @@ const FILE_MODE: u32 = 0o600;
 
 /// The bits of a mode that let somebody execute the file.
 const EXECUTABLE: u32 = 0o111;
+
+/// The longest text of a file that holds a number.
+const SETTING_BYTES: usize = 64;
+
+/// The text of a file that holds a number.
+pub(crate) type SettingText = ArrayVec<u8, SETTING_BYTES>;
 
 /// The least number of bytes in a status record.
 const STATUS_BYTES: u64 = 20;
@@ -101,6 +107,11 @@ pub struct ServiceFolder {
     files: HostRuntime,
     service: File,
     _lock: File,
+}
+
+/// Returns whether somebody can execute a file with this mode.
+fn is_executable(mode: u32) -> bool {
+    mode & EXECUTABLE != 0
 }
 
 /// Returns the path of a name in an open folder.
@@ -609,10 +620,30 @@ impl ServiceFolder {
         }
     }
 
+    /// Returns what is left over from a start that an earlier svscan intended. A `finish` is awaited, and never adopted.
+    pub(crate) fn leftover(
+        &self,
+        alloc: Global,
+        own: &OwnRun,
+        place: &Place,
+        near: &Near,
+    ) -> Leftover
+        ensures awaited { place.now.is_finish ≡ true → IsAwaited result }
+        ensures number { HasNumber result }
+    {
+        if !place.is_finish {
+            return self.find_left(alloc, own, place, near);
+        }
+        match place.finish() {
+            Some(process) => self.finish_left(own, process),
+            None => self.find_left(alloc, own, place, near).awaited(),
+        }
+    }
+
     /// Looks once at all processes, and returns what is left over from a start that an earlier svscan intended. If it
     /// can't look at them, the result is not sure.
     #[inline(never)]
-    pub(crate) fn leftover(
+    fn find_left(
         &self,
         alloc: Global,
         own: &OwnRun,
@@ -644,11 +675,39 @@ impl ServiceFolder {
         fs::metadata(&self.files, self.path("setsid").as_str()).is_ok()
     }
 
+    /// Returns whether the folder has a `finish` that somebody can execute.
+    #[inline(never)]
+    pub(crate) fn has_finish(&self) -> bool {
+        match fs::metadata(&self.files, self.path("finish").as_str()) {
+            Ok(found) => found.is_file() && is_executable(found.permissions().mode()),
+            Err(_) => false,
+        }
+    }
+
+    /// Returns the text of `timeout-finish`. Returns None if there is no such file.
+    #[inline(never)]
+    pub(crate) fn finish_time(&self) -> Option<SettingText> {
+        read_front::<HostRuntime, SETTING_BYTES>(&self.files, self.path("timeout-finish").as_str())
+            .ok()
+    }
+
+    /// Returns what is left over of a `finish` with this process.
+    #[inline(never)]
+    fn finish_left(&self, own: &OwnRun, process: ProcessId) -> Leftover
+        requires { 0 < process.pid }
+        ensures awaited { IsAwaited result }
+        ensures number { HasNumber result }
+    {
+        // If the kernel can't be asked, the process counts as alive.
+        let tick = tick_of(&self.files, process.pid).unwrap_or(Some(process.tick));
+        Leftover::of_finish(find_in(Some(process), own.boot.as_ref(), tick))
+    }
+
     /// Returns why nobody can execute `run`, if that shows without an attempt.
     #[inline(never)]
     pub(crate) fn look_at_run(&self) -> io::Result<()> {
         let found = fs::metadata(&self.files, self.path("run").as_str())?;
-        if found.permissions().mode() & EXECUTABLE == 0 {
+        if !is_executable(found.permissions().mode()) {
             return Err(Error::from(ErrorKind::PermissionDenied));
         }
         Ok(())

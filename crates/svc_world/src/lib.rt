@@ -17,6 +17,7 @@ mod adoption;
 mod begin;
 mod child_reaper;
 mod child_system;
+mod finish;
 mod flow;
 mod folder;
 mod linger;

@@ -118,7 +118,7 @@ impl Neighbours {
         if let Some(place) = place {
             let boot = place.boot;
             if place.pid > 0 && own.is_in(&boot) {
-                return Ok(place.process());
+                return Ok(place.occupant());
             }
         }
         let path = format!(in self.alloc; "{path}/supervise/process")?;

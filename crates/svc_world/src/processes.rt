@@ -189,6 +189,7 @@ impl OwnRun {
             session: self.session,
             init: self.init,
             want: Want::Up,
+            is_finish: false,
             boot: self.boot.unwrap_or(UNKNOWN_BOOT),
         }
     }

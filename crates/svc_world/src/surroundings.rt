@@ -1,5 +1,6 @@
 //! What the services of one svscan share.
-ghost use Rattle.svc_left.specs.Leftover.{HasNumber};
+ghost use Rattle.std.specs.Prelude.{◌≡◌, true};
+ghost use Rattle.svc_left.specs.Leftover.{HasNumber, IsAwaited};
 
 use crate::adoption::AdoptionWatch;
 use crate::folder::ServiceFolder;
@@ -27,7 +28,8 @@ pub struct Surroundings<R: Processes<Started = SystemProcess> + Wait + Copy + Dr
 impl<R: Processes<Started = SystemProcess> + Wait + Copy + Drop> Surroundings<R> {
     /// Returns what is left over from the start that this place of the service in a folder intends.
     pub fn leftover(&self, rt: &R, alloc: Global, folder: &ServiceFolder, place: &Place) -> Leftover
-        ensures { HasNumber result }
+        ensures awaited { place.now.is_finish ≡ true → IsAwaited result }
+        ensures number { HasNumber result }
     {
         match self.neighbours.near(rt, &self.own, place.session) {
             Ok(near) => folder.leftover(alloc, &self.own, place, &near),

@@ -3,13 +3,15 @@ ghost use Rattle.std.specs.Prelude.{◌≡◌, [], ◌∷◌, codes, option_copi
 ghost use Rattle.std.specs.IoError.{error_kind};
 ghost use Rattle.std.specs.Process.{command_args, command_program};
 ghost use Rattle.svc_world.specs.Commands.{paper_name, remark_text, unable_to_run};
+ghost use Rattle.svc_world.specs.Finish.{signal_word, status_word};
 ghost use Rattle.svc_world.specs.Stats.{present_tick};
 ghost use Rattle.svc_left.specs.Leftover.{HasNumber};
 
 use crate::begin::Death;
 use crate::child_reaper::{ChildReaper, ChildSlot, DeathSlot, WatchedChild};
 use crate::child_system::ChildSystem;
-use crate::folder::ServiceFolder;
+use crate::finish::{NO_FINISH_TIME, finish_seconds, is_late, seconds_in};
+use crate::folder::{ServiceFolder, SettingText};
 use crate::linger::Linger;
 use crate::paper::{Paper, Remark};
 use crate::processes::{AdoptedProcess, tick_of};
@@ -24,7 +26,7 @@ use std::process::{Child, Command, Processes, SystemProcess};
 use std::sync::{Arc, OnceLock, Wait};
 use std::time::{Clock, Duration};
 use sup_core::Sig;
-use svc_exit::Ending;
+use svc_exit::{Ending, Exit};
 use svc_house::Notifier;
 use svc_left::{Leftover, Place};
 use tai_status::{Cause, Label, TimeSource};
@@ -173,6 +175,34 @@ fn unable_to_run(fault: &io::Error) -> Option<&'static str>
     }
 }
 
+/// Returns the two words of `finish`: the exit status or -1, and the number of the signal or 0.
+fn finish_words(ending: Ending) -> (ArrayString<32>, ArrayString<32>)
+    ensures status { result.0.bytes ≡ status_word ending }
+    ensures signal { result.1.bytes ≡ signal_word ending }
+{
+    let (mut status, mut signal) = (ArrayString::new(), ArrayString::new());
+    match ending {
+        Ending::Status(number) => push_number(&mut status, u64::from(number)),
+        _ => status.push_str("-1"),
+    }
+    match ending {
+        Ending::Signal(number) => push_number(&mut signal, u64::from(number)),
+        _ => signal.push_str("0"),
+    }
+    (status, signal)
+}
+
+/// Returns the command that runs the `finish` of a service whose process ended this way.
+fn finish(alloc: Global, ending: Ending) -> Result<Command, AllocError>
+    ensures program { IfOk result (λ command. command_program command ≡ codes "./finish") }
+    ensures words { IfOk result (λ command. command_args command ≡ status_word ending ∷ signal_word ending ∷ []) }
+{
+    let (status, signal) = finish_words(ending);
+    let mut command = Command::new(alloc, "./finish")?;
+    command.arg(status.as_str())?.arg(signal.as_str())?;
+    Ok(command)
+}
+
 /// The nanoseconds in a tick of the kernel's clock, as it reports times (sysconf(3), `_SC_CLK_TCK`).
 const TICK_NANOS: u128 = 10_000_000;
 
@@ -297,6 +327,30 @@ where
         }
     }
 
+    /// Makes a child that runs `finish`.
+    fn make_finish(&self, exit: &Exit) -> io::Result<Child<SystemProcess>> {
+        self.launch(&mut finish(self.alloc, exit.ending)?)
+    }
+
+    /// Reports a file of the service that holds no number of seconds.
+    #[inline(never)]
+    fn report_time(&self, text: Option<SettingText>) {
+        if let Some(text) = text
+            && seconds_in(text.as_slice()).is_none()
+        {
+            self.report(NO_FINISH_TIME);
+        }
+    }
+
+    /// Reports a `finish` that can't be run.
+    #[inline(never)]
+    fn report_finish(&self, fault: &io::Error) {
+        let cause = Cause::of(fault);
+        if let Ok(what) = format!(in self.alloc; "unable to run ./finish: {}", cause.words()) {
+            self.report(what.as_str());
+        }
+    }
+
     /// Reports a fault of the service on this process's standard error, in one write.
     fn report(&self, what: &str) {
         if let Ok(line) = format!(in self.alloc; "svscan: {}: {what}\n", self.name.as_str()) {
@@ -304,11 +358,14 @@ where
         }
     }
 
-    /// Makes a child, and hands it to the reaper.
-    fn make_watched(&mut self) -> io::Result<u32> {
+    /// Makes a child by this function, and hands it to the reaper.
+    fn make_watched<F>(&mut self, make: F) -> io::Result<u32>
+    where
+        F: Fn(&SystemChildren<R>) -> io::Result<Child<SystemProcess>>,
+    {
         let death = Arc::new(self.alloc, OnceLock::new())?;
         let theirs = Arc::try_clone(&death)?;
-        let child = self.make()?;
+        let child = make(self)?;
         let pid = child.id();
         let watched = WatchedChild {
             child,
@@ -328,10 +385,33 @@ where
     fn spawn(&mut self) -> Option<u32> {
         self.death = DeathSource::None;
         self.linger.begin(self.notifier.letters());
-        match self.make_watched() {
+        match self.make_watched(|children| children.make()) {
             Ok(pid) if pid > 0 => Some(pid),
             _ => None,
         }
+    }
+
+    fn has_finish(&mut self) -> bool {
+        self.folder.has_finish()
+    }
+
+    #[inline(never)]
+    fn finish(&mut self, exit: &Exit) -> Option<u32> {
+        self.report_time(self.folder.finish_time());
+        match self.make_watched(|children| children.make_finish(exit)) {
+            Ok(pid) if pid > 0 => Some(pid),
+            Ok(_) => None,
+            Err(fault) => {
+                self.report_finish(&fault);
+                None
+            }
+        }
+    }
+
+    fn is_late(&mut self, tick: u64) -> bool {
+        let text = self.folder.finish_time();
+        let seconds = finish_seconds(text.as_ref().map(|text| text.as_slice()));
+        is_late(seconds, tick, present_tick(self.runtime.monotonic().ok()))
     }
 
     fn death(&mut self) -> Option<Death> {

@@ -12,11 +12,14 @@ use std::time::Duration;
 use sup_core::Sig;
 use svc_exit::{Counts, Exit, counts_text, exit_text};
 use svc_house::{StartAnswer, World};
-use svc_left::{Leftover, Place, place_line, process_line};
+use svc_left::{Leftover, Place, ProcessId, place_line, process_line};
 use tai_status::{Label, Want, decode_front};
 
 /// The most seconds that a service rests before its next turn while it owes a paper.
 const OWING_REST: u64 = 1;
+
+/// The most milliseconds that a service rests before it checks again whether the time of its `finish` is over.
+const FINISHING_REST: u64 = 100;
 
 /// The most milliseconds that a service rests before it checks again whether a death is to be reported.
 const LINGERING_REST: u64 = 3;
@@ -32,6 +35,10 @@ const LINGERING_REST: u64 = 3;
 /// once that something is owed, and once that all is written.
 ///
 /// A signal goes to the last child, or to the adopted process, while its death is not known.
+///
+/// If the service has a `finish`, it runs after each death, and the death is reported once `finish` has ended. Its
+/// intent and its process are in the place, so that no process of the service begins next to it, even if svscan is
+/// killed. A `finish` whose time is over gets KILL.
 #[derive(Drop)]
 pub struct ChildWorld<C: ChildSystem + Drop> {
     system: C,
@@ -113,8 +120,13 @@ impl<C: ChildSystem + Drop> ChildWorld<C> {
     ghost use Rattle.svc_world.specs.declared.paper.Paper.TheVariants as paper;
     ghost use Rattle.svc_left.specs.Leftover.{HasNumber};
     ghost use Rattle.svc_world.specs.Owed.{first_owed};
-    ghost use Rattle.svc_world.specs.Watch.{Adopts, AsksLinger, CountsRecord, Intends, KeepsOrReports, KnowsDeath};
-    ghost use Rattle.svc_world.specs.Watch.{ReadsTick, RecordsAt, with_death};
+    ghost use Rattle.svc_world.specs.Watch.{Adopts, AsksDeath, AsksLinger, BeginsFinish, Bounds, CountsRecord, EndsFinish};
+    ghost use Rattle.svc_world.specs.Watch.{FinishesBy, FinishesIf, Intends, IntendsFinish, KeepsOrReports, KillsIfLate};
+    ghost use Rattle.svc_world.specs.Watch.{KnowsDeath, LearnsDeath, ReadsTick, RecordsAt, Says, SeeksEnd, SeeksFinish};
+    ghost use Rattle.svc_world.specs.Watch.{SpawnsFinishIf, Waits, with_end, with_exit, with_finish};
+    ghost use Rattle.svc_left.specs.Place.{finish_in};
+    ghost use Rattle.svc_left.specs.Leftover.{IsAwaited};
+    ghost use Rattle.std.specs.Prelude.{option_copied, true};
     ghost use Rattle.svc_world.specs.Watch.{RecordsChild, RecordsProcess, RecordsStart, ReportsDeath, Runs, SaysChange};
     ghost use Rattle.svc_world.specs.Watch.{SeeksDeath, SeeksLeftover, SeeksTick, SpawnsIf, StartsBy, TakesUp, Vacates};
     ghost use Rattle.svc_world.specs.Watch.{Writes, WritesAgain, WritesAs, WritesIf, WritesIfSome, answered, begun, bereft};
@@ -416,6 +428,42 @@ impl<C: ChildSystem + Drop> ChildWorld<C> {
         self.system.adopt(pid, tick);
     }
 
+    // Says this about the service.
+    fn say(&mut self, remark: Remark)
+        ensures { Says remark self.old self.new }
+    {
+        self.system.say(remark);
+    }
+
+    // Sends KILL to a `finish` if its time is over.
+    fn kill_if_late(&mut self, process: &ProcessId)
+        requires { 0 < process.now.pid }
+        ensures { KillsIfLate process.now self.old self.new }
+    {
+        if self.system.is_late(process.tick) {
+            self.system.signal(Sig::KILL, process.pid);
+        }
+    }
+
+    // Sends KILL to the `finish` in the place, if there is one and its time is over.
+    fn bound_finish(&mut self)
+        ensures { Bounds (finish_in self.old.place) self.old self.new }
+    {
+        if let Some(process) = self.place.finish() {
+            self.kill_if_late(&process);
+        }
+    }
+
+    // Fails a start, since this process may still run.
+    #[inline(never)]
+    fn wait_for(&mut self, pid: u32, label: Label)
+        ensures { Waits pid label self.old self.new }
+    {
+        self.answer(None, label);
+        self.say(Remark::StillRuns(pid));
+        self.bound_finish();
+    }
+
     // Continues a start according to what is left over.
     fn start_by(&mut self, found: Leftover, label: Label)
         requires { HasNumber found }
@@ -424,10 +472,7 @@ impl<C: ChildSystem + Drop> ChildWorld<C> {
         match found {
             Leftover::Nobody => self.run(label),
             Leftover::Process(pid, tick) => self.take_up(pid, tick, label),
-            Leftover::Unsure(pid) => {
-                self.answer(None, label);
-                self.system.say(Remark::StillRuns(pid));
-            }
+            Leftover::Unsure(pid) => self.wait_for(pid, label),
         }
     }
 
@@ -482,11 +527,11 @@ impl<C: ChildSystem + Drop> ChildWorld<C> {
         self.system.lingers()
     }
 
-    // Keeps a death that is not reported yet.
+    // Keeps a death whose `finish` is over, and that is not reported yet.
     fn keep_death(&mut self, exit: Exit)
-        ensures { self.new ≡ with_death exit self.old }
+        ensures { self.new ≡ with_end exit self.old }
     {
-        self.child = LastChild::Dead(exit);
+        self.child = LastChild::Ended(exit);
     }
 
     // Reports a death, or keeps it if it waits.
@@ -501,7 +546,7 @@ impl<C: ChildSystem + Drop> ChildWorld<C> {
         }
     }
 
-    // Reports a death that is known, or keeps it while control bytes come.
+    // Reports a death whose `finish` is over, or keeps it while control bytes come.
     fn know_death(&mut self, exit: Exit) -> Option<Label>
         ensures { KnowsDeath exit result self.old self.new }
     {
@@ -509,13 +554,127 @@ impl<C: ChildSystem + Drop> ChildWorld<C> {
         self.keep_or_report(waits, exit)
     }
 
+    // Returns whether the service has a `finish`.
+    fn seek_finish(&mut self) -> bool
+        ensures { SeeksFinish result self.old self.new }
+    {
+        self.system.has_finish()
+    }
+
+    // Sets how the last child ended.
+    fn set_exit(&mut self, exit: Exit)
+        ensures { self.new ≡ with_exit exit self.old }
+    {
+        self.exit = Some(exit);
+    }
+
+    // Sets that the service's `finish` runs, after its child ended this way.
+    fn set_finishing(&mut self, exit: Exit)
+        ensures { self.new ≡ with_finish exit self.old }
+    {
+        self.child = LastChild::Finishing(exit);
+    }
+
+    // Records how the last child ended.
+    fn note_exit(&mut self, exit: Exit)
+        ensures { Writes paper.Exit (exit_text exit) (with_exit exit self.old) self.new }
+    {
+        self.set_exit(exit);
+        self.write_paper(Paper::Exit, exit_text(&exit).as_slice());
+    }
+
+    // Writes the intent to start a `finish` into the place. Returns whether it is written.
+    fn intend_finish(&mut self) -> bool
+        ensures { IntendsFinish result self.old self.new }
+    {
+        let tick = self.read_tick();
+        let place = self.place.finishing(tick, self.session);
+        self.set_place(place);
+        self.write_place()
+    }
+
+    // Spawns a `finish`, if a start of it was intended.
+    fn spawn_finish_if(&mut self, intended: bool, exit: &Exit) -> Option<u32>
+        ensures spawns { SpawnsFinishIf intended exit.now result self.old self.new }
+        ensures number { IfSome result (λ pid. 0 < pid) }
+    {
+        if intended { self.system.finish(exit) } else { None }
+    }
+
+    // Records that a `finish` is over, and then reports the death, or keeps it while control bytes come.
+    fn end_finish(&mut self, exit: Exit) -> Option<Label>
+        ensures { EndsFinish exit result self.old self.new }
+    {
+        self.vacate();
+        self.know_death(exit)
+    }
+
+    // Continues a death, by the `finish` that was made.
+    fn finish_by(&mut self, child: Option<u32>, exit: Exit) -> Option<Label>
+        ensures { FinishesBy child exit result self.old self.new }
+    {
+        match child {
+            Some(pid) => {
+                self.set_finishing(exit);
+                self.record_process(pid);
+                None
+            }
+            None => self.end_finish(exit),
+        }
+    }
+
+    // Begins the `finish` after a child ended this way.
+    #[inline(never)]
+    fn begin_finish(&mut self, exit: Exit) -> Option<Label>
+        ensures { BeginsFinish exit result self.old self.new }
+    {
+        self.note_exit(exit);
+        let intended = self.intend_finish();
+        let child = self.spawn_finish_if(intended, &exit);
+        self.finish_by(child, exit)
+    }
+
+    // Begins the `finish`, if there is one. Otherwise reports the death, or keeps it while control bytes come.
+    fn finish_if(&mut self, has: bool, exit: Exit) -> Option<Label>
+        ensures { FinishesIf has exit result self.old self.new }
+    {
+        if has { self.begin_finish(exit) } else { self.know_death(exit) }
+    }
+
+    // Continues after a death was found.
+    fn learn_death(&mut self, exit: Exit) -> Option<Label>
+        ensures { LearnsDeath exit result self.old self.new }
+    {
+        let has = self.seek_finish();
+        self.finish_if(has, exit)
+    }
+
+    // Looks for the death of the last child.
+    fn ask_death(&mut self) -> Option<Death>
+        ensures { AsksDeath result self.old self.new }
+    {
+        self.system.death()
+    }
+
+    // Looks for the end of the `finish` after a child ended this way.
+    fn seek_end(&mut self, exit: Exit) -> Option<Label>
+        ensures { SeeksEnd exit result self.old self.new }
+    {
+        match self.ask_death() {
+            Some(_) => self.end_finish(exit),
+            None => {
+                self.bound_finish();
+                None
+            }
+        }
+    }
+
     // Looks for the death of the child with this number.
     fn seek_death(&mut self, pid: u32) -> Option<Label>
         ensures { SeeksDeath pid result self.old self.new }
     {
-        let death = self.system.death();
-        match death {
-            Some(death) => self.know_death(death.exit_of(pid)),
+        match self.ask_death() {
+            Some(death) => self.learn_death(death.exit_of(pid)),
             None => None,
         }
     }
@@ -574,15 +733,17 @@ impl<C: ChildSystem + Drop> World for ChildWorld<C> {
         self.answer.take()
     }
 
-    /// Returns when the last child died, once it has died. This is reported once, and how it ended is recorded then.
-    /// While control bytes follow one another, they are taken first.
+    /// Returns when the last child died, once it has died and its `finish`, if there is one, is over. This is reported
+    /// once, and how it ended is recorded then. While control bytes follow one another, they are taken first.
     fn poll_death(&mut self) -> Option<Label>
         ensures { PollsDeath self.old.child result self.old self.new }
     {
         match self.child {
             LastChild::Gone => None,
-            LastChild::Dead(exit) => self.know_death(exit),
             LastChild::Alive(pid) => self.seek_death(pid),
+            LastChild::Dead(exit) => self.learn_death(exit),
+            LastChild::Finishing(exit) => self.seek_end(exit),
+            LastChild::Ended(exit) => self.know_death(exit),
         }
     }
 
@@ -607,10 +768,14 @@ impl<C: ChildSystem + Drop> World for ChildWorld<C> {
         self.say_change();
     }
 
-    /// Returns 3 milliseconds while a death waits, and otherwise one second while a paper is owed.
+    /// Returns 3 milliseconds while a death waits, 100 while a `finish` runs, and otherwise one second while a paper is
+    /// owed.
     fn longest_rest(&self) -> Option<Duration> {
         match (self.child, self.owed.first()) {
-            (LastChild::Dead(_), _) => Some(Duration::from_millis(LINGERING_REST)),
+            (LastChild::Dead(_) | LastChild::Ended(_), _) => {
+                Some(Duration::from_millis(LINGERING_REST))
+            }
+            (LastChild::Finishing(_), _) => Some(Duration::from_millis(FINISHING_REST)),
             (_, Some(_)) => Some(Duration::from_secs(OWING_REST)),
             (_, None) => None,
         }

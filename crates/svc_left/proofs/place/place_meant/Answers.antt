@@ -1,6 +1,6 @@
 use Rattle.std.proofs.Common.{◌≡◌, ◌++◌, ◌∷◌, List, ℕ, codes, decimal, arith, ◌∙◌}
 use Rattle.svc_left.specs.declared.place.Place.{Place}
-use Rattle.svc_left.specs.Place.{place_end, place_line, place_rest, want_number}
+use Rattle.svc_left.specs.Place.{place_end, place_line, place_rest, last_number}
 use Rattle.svc_left.proofs.Spaces.{one_in_front, two_in_front}
 use Rattle.svc_left.proofs.place.place_meant.Goals as goal
 
@@ -13,8 +13,8 @@ session : (place : Place) (text : List ℕ) → text ≡ place_rest place
 session place text is = is ∙ two_in_front (decimal place.session) (decimal place.init) (codes " ") (place_end place)
 
 wanted : (place : Place) (text : List ℕ) → text ≡ place_end place
-    → text ≡ decimal (want_number place.want) ++ 32 ∷ (place.boot ++ codes "\n")
-wanted place text is = is ∙ one_in_front (decimal (want_number place.want)) (codes " ") place.boot (codes "\n")
+    → text ≡ decimal (last_number place.is_finish place.want) ++ 32 ∷ (place.boot ++ codes "\n")
+wanted place text is = is ∙ one_in_front (decimal (last_number place.is_finish place.want)) (codes " ") place.boot (codes "\n")
 
 pub returns-in_err-pid : goal.returns-in_err-pid
 returns-in_err-pid c = record {
@@ -34,14 +34,14 @@ returns-in_err-session c = record {
       absurd second;
 }
 
-pub returns-in_err-want : goal.returns-in_err-want
-returns-in_err-want c = record {
+pub returns-in_err-is_finish : goal.returns-in_err-is_finish
+returns-in_err-is_finish c = record {
   only = λ place is text.
       let first = c.in_ok-pid.ensures.only place.pid place.tick (place_rest place)
       (omega (arith, is.pid)) is.tick (numbers place c.args.text.now text) in
       let second = c.in_ok-session.ensures.only place.session place.init (place_end place) is.session is.init
       (session place _ (first.2)) in
-      let third = c.in_err-want.ensures.only place.want place.boot is.boot (wanted place _ (second.2)) in
+      let third = c.in_err-is_finish.ensures.only place.is_finish place.want place.boot is.boot (wanted place _ (second.2)) in
       absurd (cc third);
 }
 
@@ -60,6 +60,6 @@ returns c = record {
       (omega (arith, is.pid)) is.tick (numbers place c.args.text.now text) in
       let second = c.in_ok-session.ensures.only place.session place.init (place_end place) is.session is.init
       (session place _ (first.2)) in
-      let third = c.in_ok-want.ensures.only place.want place.boot is.boot (wanted place _ (second.2)) in
+      let third = c.in_ok-is_finish.ensures.only place.is_finish place.want place.boot is.boot (wanted place _ (second.2)) in
       grind (arith, first, second, third, is, c.in_ok-pid-2.ensures);
 }
