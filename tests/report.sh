@@ -75,31 +75,43 @@ record() {
 
 listen s
 record 'up' "${label}671200000075" \
-  'up=true pid=4711 seconds="S" phase=null want="up" paused=false normally="up" exiting=null'
+  'up=true pid=4711 seconds="S" phase=null want="up" paused=false normally="up" exiting=null finishing=false'
 record 'paused, wanted down' "${label}671200000164" \
-  'up=true pid=4711 seconds="S" phase=null want="down" paused=true normally="up" exiting=null'
+  'up=true pid=4711 seconds="S" phase=null want="down" paused=true normally="up" exiting=null finishing=false'
 record 'down' "${label}000000000064" \
-  'up=false pid=null seconds="S" phase=null want="down" paused=false normally="up" exiting=null'
+  'up=false pid=null seconds="S" phase=null want="down" paused=false normally="up" exiting=null finishing=false'
 record 'down, once' "${label}000000000000" \
-  'up=false pid=null seconds="S" phase=null want="once" paused=false normally="up" exiting=null'
+  'up=false pid=null seconds="S" phase=null want="once" paused=false normally="up" exiting=null finishing=false'
 record 'the greatest process number' "${label}ffffffff0075" \
-  'up=true pid=4294967295 seconds="S" phase=null want="up" paused=false normally="up" exiting=null'
+  'up=true pid=4294967295 seconds="S" phase=null want="up" paused=false normally="up" exiting=null finishing=false'
 record 'in the future' 7fffffffffffffff00000000671200000075 \
-  'up=true pid=4711 seconds=0 phase=null want="up" paused=false normally="up" exiting=null'
+  'up=true pid=4711 seconds=0 phase=null want="up" paused=false normally="up" exiting=null finishing=false'
 record 'starting' "${label}0000000000750000" \
-  'up=false pid=null seconds="S" phase="starting" want="up" paused=false normally="up" exiting=false'
+  'up=false pid=null seconds="S" phase="starting" want="up" paused=false normally="up" exiting=false finishing=false'
 record 'settling' "${label}6712000000750001" \
-  'up=true pid=4711 seconds="S" phase="settling" want="up" paused=false normally="up" exiting=false'
+  'up=true pid=4711 seconds="S" phase="settling" want="up" paused=false normally="up" exiting=false finishing=false'
 record 'resting' "${label}0000000000750002" \
-  'up=false pid=null seconds="S" phase="resting" want="up" paused=false normally="up" exiting=false'
+  'up=false pid=null seconds="S" phase="resting" want="up" paused=false normally="up" exiting=false finishing=false'
 record 'phase up, exiting' "${label}6712000001640103" \
-  'up=true pid=4711 seconds="S" phase="up" want="down" paused=true normally="up" exiting=true'
+  'up=true pid=4711 seconds="S" phase="up" want="down" paused=true normally="up" exiting=true finishing=false'
 : >s/down
 record 'phase down, a file down' "${label}0000000000640004" \
-  'up=false pid=null seconds="S" phase="down" want="down" paused=false normally="down" exiting=false'
+  'up=false pid=null seconds="S" phase="down" want="down" paused=false normally="down" exiting=false finishing=false'
 rm s/down
 record 'gone' "${label}0000000000640105" \
-  'up=false pid=null seconds="S" phase="gone" want="down" paused=false normally="up" exiting=true'
+  'up=false pid=null seconds="S" phase="gone" want="down" paused=false normally="up" exiting=true finishing=false'
+# A file finish, and a process that lives or does not: no process has the greatest number.
+: >s/finish
+record 'its process has ended, and it has a finish' "${label}ffffffff00750003" \
+  'up=true pid=4294967295 seconds="S" phase="up" want="up" paused=false normally="up" exiting=false finishing=true'
+is 'finishing: svstat' 's: up (pid 4294967295) N seconds, finishing' "$("$program" svstat s | sed -E 's/ [0-9]+ seconds/ N seconds/')"
+is 'finishing: metrics' 'dtools_service_finishing{service="s"} 1' "$("$program" svstat --metrics s | grep '^dtools_service_finishing')"
+record 'its process lives' "${label}0100000000750003" \
+  'up=true pid=1 seconds="S" phase="up" want="up" paused=false normally="up" exiting=false finishing=false'
+is 'it lives: metrics' 'dtools_service_finishing{service="s"} 0' "$("$program" svstat --metrics s | grep '^dtools_service_finishing')"
+record 'a finish, and no process' "${label}0000000000640004" \
+  'up=false pid=null seconds="S" phase="down" want="down" paused=false normally="up" exiting=false finishing=false'
+rm s/finish
 
 # What can't be looked at: the words of svstat's own line.
 for row in "Length|" "Length|${label}67120000007500" "BadLabel|400000003a4fc88a3b9aca00671200000075" \
@@ -236,7 +248,7 @@ metrics 'counts beside a bad record' 'supervised 0 1' s
 rm s/supervise/status s/supervise/counts
 
 # Names of any bytes: what is said of each when nobody is there, and when its record is read.
-up='up=true pid=4711 seconds="S" phase="up" want="up" paused=false normally="up" exiting=false'
+up='up=true pid=4711 seconds="S" phase="up" want="up" paused=false normally="up" exiting=false finishing=false'
 names=('a b' '"' '\' '\"' "'" '{"path":"x"}' $'a\nb' $'\n' $'\t\r\b\f' $'\x01\x1f\x7f' '\u0041' '--json' '-x' 'grün' '日本' '🦀'
   $'\xe2\x80\xa8' "$(printf 'n%.0s' $(seq 255))" "$(printf '"%.0s' $(seq 255))" "$(printf '\\%.0s' $(seq 255))"
   "$(printf 'é%.0s' $(seq 127))")

@@ -226,7 +226,7 @@ modes() {
   (cd "$1/supervise" && stat -c %a . control ok status lock trace | paste -sd ' ')
 }
 
-# A umask that forbids all changes no mode, and neither does what another program left in supervise.
+# A umask that forbids all changes no mode. What another program left in supervise is replaced.
 modes_kept() {
   sleeper d/web
   sleeper d/found
@@ -241,11 +241,59 @@ modes_kept() {
   soon 'found: up' 5 is_settled d/found
   soon 'a trace is kept' 8 test -e d/web/supervise/trace
   is 'modes' '700 600 600 600 600 600' "$(modes d/web)"
-  is 'found: modes' '700 600 600 600 600 600' "$(modes d/found)"
+  # A folder that was there keeps its mode, and so does a status record.
+  is 'found: modes' '755 600 600 644 600 600' "$(modes d/found)"
   is 'found: served' 0 "$(is_served d/found; echo $?)"
   svc -d d/found
   soon 'found: d' 3 is_put_down d/found
   is 'nothing was reported' '' "$(cat reported reported.out)"
+}
+
+# The owner and the mode of a socket, of the status record and of the folder supervise
+accesses() { stat -c '%U:%G %a' "$@" | paste -sd ' '; }
+
+# An administrator gives a service to an account: that lasts under the next svscan, and nothing is opened wider.
+delegated() {
+  local file name names account=nobody
+  [ "$(id -u)" = 0 ] || return
+  chmod 711 "$room" . || return
+  sleeper d/web
+  sleeper d/other
+  sleeper d/linked
+  chmod 755 d d/web d/other d/linked
+  start_session reported d
+  soon 'up' 10 all_are is_settled d/web d/other d/linked
+  names=(d/web/supervise/control d/web/supervise/ok d/web/supervise/status)
+  chmod 710 d/web/supervise
+  chown ":$(id -gn $account)" d/web/supervise
+  chown "$account" d/web/supervise/control d/web/supervise/ok
+  chgrp "$(id -gn $account)" d/web/supervise/status
+  chmod 640 d/web/supervise/status
+  accesses d/web/supervise "${names[@]}" >before
+  accesses d/other/supervise d/other/supervise/{control,ok,status} >other
+  as() { setpriv --reuid "$account" --regid "$(id -g $account)" --clear-groups "$@"; }
+  is 'it may look' "d/web: up (pid $(process d/web)) N seconds" "$(as "$program" svstat d/web | sed -E 's/ [0-9]+ seconds/ N seconds/')"
+  kill -KILL "$svscan"
+  soon 'svscan is dead' 3 is_gone "$svscan"
+  # Somebody who owns a folder supervise has put a link in the place of the folder in which sockets are made.
+  mkdir -m 700 private
+  chown "$account" d/linked/supervise d/linked/supervise/control
+  ln -s "$PWD/private" d/linked/supervise/room
+  echo kept >private/socket
+  start_session reported2 d
+  soon 'served' 10 all_are is_served d/web d/other
+  soon 'taken up' 10 all_are is_settled d/web d/other
+  is 'access is as before' "$(cat before)" "$(accesses d/web/supervise "${names[@]}")"
+  is 'nobody else got any' "$(cat other)" "$(accesses d/other/supervise d/other/supervise/{control,ok,status})"
+  as "$program" svc -d d/web
+  soon 'it may bring it down' 5 is_put_down d/web
+  is 'and look' 'd/web: down N seconds, normally up' "$(as "$program" svstat d/web | sed -E 's/ [0-9]+ seconds/ N seconds/')"
+  is 'a new record has the same access' "$(cat before)" "$(accesses d/web/supervise "${names[@]}")"
+  is 'it may do nothing else' 111 "$(as "$program" svc -W -d d/other >svc.out 2>&1; echo $?)"
+  is 'no folder is left' no "$(exists d/web/supervise/room)"
+  is 'what a link names is kept' kept "$(cat private/socket)"
+  is 'and that service is reported' 'svscan: linked: unable to supervise: Permission denied' "$(sort -u reported2)"
+  is 'nothing else was reported' '' "$(cat reported)"
 }
 
 # A service that exits at once.
@@ -406,6 +454,11 @@ END
   soon 'it finishes' 5 is_finishing d/web
   so 'how it ended is written at once' exit_says "$first signal TERM" d/web
   is 'with its words' '-1 15' "$(cat d/web/words)"
+  is 'svstat says it' "d/web: up (pid $first) N seconds, finishing" "$(stat_line d/web)"
+  so 'why says it' why_says " Process $first ended by SIGTERM\\. Its finish runs\\." d/web
+  is 'it is not up' 99 "$(timeout 10 "$program" wait -u -t 1 d/web >/dev/null 2>&1; echo $?)"
+  svc -kt d/web
+  so 'its finish gets no signal' is_finishing d/web
   sleep 2.5
   is 'nothing begins next to it' 1 "$(count d/web/starts)"
   is 'its end is not reported' "$first" "$(process d/web)"
@@ -2421,7 +2474,7 @@ play_all() {
   done
 }
 
-scenarios=(life modes_kept exits endings finishes bounded_finish killed_finish no_run links stubborn killed_service killed_svscan killed_early unnamed starved unwritten new_boot other_user earlier_record elsewhere changes twice names silent
+scenarios=(life modes_kept delegated exits endings finishes bounded_finish killed_finish no_run links stubborn killed_service killed_svscan killed_early unnamed starved unwritten new_boot other_user earlier_record elsewhere changes twice names silent
   connections no_supervise unheard rounds untaken own refused last_words upgraded unread ordered first_process two_services child begins_anew shortage
   descriptors_reported unchanged resting full_disk full_put_down placeless held_locks held_pair many_bytes raised_limit
   odd_environment unreaped bounded_end no_folder folder_away apart)

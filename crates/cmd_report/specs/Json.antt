@@ -96,7 +96,8 @@ abbrev pub look_members : Look → List Token
 look_members (look.Unreached why) = unreached_members why
 look_members look.Unread = string_member (codes "error") (codes "unable to read status")
 look_members (look.Bad cause) = string_member (codes "error") (codes "bad status record: " ++ fault_name cause)
-look_members (look.Standing loaded normally_up now) = standing_members loaded normally_up now
+look_members (look.Standing loaded normally_up now finishing) =
+    standing_members loaded normally_up now ++ boolean_member (codes "finishing") finishing
 
 -- Lines
 

@@ -40,7 +40,8 @@ standing_value sample.Paused loaded now = Some (flag_byte (status_in loaded).pau
 standing_value other loaded now = None
 
 abbrev pub look_value : Sample → Look → Option ℕ
-look_value sample (look.Standing loaded normally_up now) = standing_value sample loaded now
+look_value sample.Finishing (look.Standing loaded normally_up now finishing) = Some (flag_byte finishing)
+look_value sample (look.Standing loaded normally_up now finishing) = standing_value sample loaded now
 look_value sample other = None
 
 abbrev pub starts_in : Option Counts → Option ℕ
@@ -79,6 +80,7 @@ metric_name sample.Seconds = codes "dtools_service_seconds"
 metric_name (sample.InPhase phase) = codes "dtools_service_phase"
 metric_name sample.WantedUp = codes "dtools_service_wanted_up"
 metric_name sample.Paused = codes "dtools_service_paused"
+metric_name sample.Finishing = codes "dtools_service_finishing"
 metric_name sample.Starts = codes "dtools_service_starts_total"
 metric_name sample.Deaths = codes "dtools_service_deaths_total"
 
@@ -121,6 +123,8 @@ head_text sample.WantedUp = codes "# HELP dtools_service_wanted_up Whether the s
     ++ codes "# TYPE dtools_service_wanted_up gauge" ++ 10 ∷ []
 head_text sample.Paused = codes "# HELP dtools_service_paused Whether the process of the service is paused." ++ 10 ∷ []
     ++ codes "# TYPE dtools_service_paused gauge" ++ 10 ∷ []
+head_text sample.Finishing = codes "# HELP dtools_service_finishing Whether the finish of the service runs." ++ 10 ∷ []
+    ++ codes "# TYPE dtools_service_finishing gauge" ++ 10 ∷ []
 head_text sample.Starts =
     codes "# HELP dtools_service_starts_total Starts of its process since svscan began." ++ 10 ∷ []
     ++ codes "# TYPE dtools_service_starts_total counter" ++ 10 ∷ []
@@ -137,7 +141,7 @@ abbrev pub all_samples : List Sample
 all_samples =
     sample.Supervised ∷ sample.Up ∷ sample.Seconds ∷ sample.InPhase phase.Starting ∷ sample.InPhase phase.Settling
     ∷ sample.InPhase phase.Up ∷ sample.InPhase phase.Down ∷ sample.InPhase phase.Resting ∷ sample.InPhase phase.Gone
-    ∷ sample.WantedUp ∷ sample.Paused ∷ sample.Starts ∷ sample.Deaths ∷ []
+    ∷ sample.WantedUp ∷ sample.Paused ∷ sample.Finishing ∷ sample.Starts ∷ sample.Deaths ∷ []
 
 unfoldable pub metrics_text : List Found → List ℕ
 metrics_text founds = flat_map (λ sample. sample_lines sample founds) all_samples

@@ -26,7 +26,7 @@ counts_of (Some bytes) = counts_in bytes
 
 -- Counts are read if the status was read, and only then.
 abbrev pub AreCounts : (known : Option (Option (List ℕ))) → Look → Option Counts → Type 0
-AreCounts known (look.Standing loaded normally_up now) counts =
+AreCounts known (look.Standing loaded normally_up now finishing) counts =
     (read : Option (List ℕ)) × (IsKnown known read × (counts ≡ counts_of read))
 AreCounts known other counts = counts ≡ None
 

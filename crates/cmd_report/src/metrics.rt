@@ -10,7 +10,7 @@ use std::alloc::{AllocError, Allocator};
 use tai_status::{Phase, phase_name};
 
 /// All samples, with those of one metric together.
-const SAMPLES: [Sample; 13] = [
+const SAMPLES: [Sample; 14] = [
     Sample::Supervised,
     Sample::Up,
     Sample::Seconds,
@@ -22,6 +22,7 @@ const SAMPLES: [Sample; 13] = [
     Sample::InPhase(Phase::Gone),
     Sample::WantedUp,
     Sample::Paused,
+    Sample::Finishing,
     Sample::Starts,
     Sample::Deaths,
 ];

@@ -27,7 +27,8 @@ use tai_status::{Label, Loaded, Output, RecordFault, TimeSource, View, Want, pha
 /// - `want`: `up`, `down` or `once`;
 /// - `paused`: whether it is paused;
 /// - `normally`: `down` if its folder has a file `down`, and otherwise `up`;
-/// - `exiting`: whether supervise is to end, or `null` for a record of 18 bytes, which does not say it.
+/// - `exiting`: whether supervise is to end, or `null` for a record of 18 bytes, which does not say it;
+/// - `finishing`: whether its process has ended, and its `finish` runs.
 ///
 /// Otherwise there are `path` and `error`: what svstat's line has after the folder and `: `.
 ///
@@ -109,7 +110,11 @@ fn add_members<A: Allocator>(writer: &mut Writer<A>, look: &Look) -> Result<(), 
             loaded,
             normally_up,
             now,
-        } => add_standing(writer, loaded, *normally_up, now),
+            finishing,
+        } => {
+            add_standing(writer, loaded, *normally_up, now)?;
+            add_boolean(writer, "finishing", *finishing)
+        }
     }
 }
 

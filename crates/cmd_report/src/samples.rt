@@ -25,6 +25,8 @@ pub enum Sample {
     WantedUp,
     /// Whether its process is paused.
     Paused,
+    /// Whether its process has ended, and its `finish` runs.
+    Finishing,
     /// How often it was started since svscan began.
     Starts,
     /// How often it died since svscan began.
@@ -88,7 +90,15 @@ fn look_value(sample: Sample, look: &Look) -> Option<u64>
     ensures { result ≡ look_value sample look.now }
 {
     match look {
-        Look::Standing { loaded, now, .. } => standing_value(sample, loaded, now),
+        Look::Standing {
+            loaded,
+            now,
+            finishing,
+            ..
+        } => match sample {
+            Sample::Finishing => Some(flag(*finishing)),
+            _ => standing_value(sample, loaded, now),
+        },
         Look::Unreached(_) | Look::Unread | Look::Bad(_) => None,
     }
 }
@@ -104,7 +114,7 @@ fn standing_value(sample: Sample, loaded: &Loaded, now: &Label) -> Option<u64>
         Sample::InPhase(phase) => phase_value(phase, loaded),
         Sample::WantedUp => Some(flag(wants_up(view.want))),
         Sample::Paused => Some(flag(view.paused)),
-        Sample::Supervised | Sample::Starts | Sample::Deaths => None,
+        Sample::Supervised | Sample::Finishing | Sample::Starts | Sample::Deaths => None,
     }
 }
 
@@ -146,6 +156,7 @@ pub(crate) fn metric_name(sample: Sample) -> &'static str
         Sample::InPhase(_) => "dtools_service_phase",
         Sample::WantedUp => "dtools_service_wanted_up",
         Sample::Paused => "dtools_service_paused",
+        Sample::Finishing => "dtools_service_finishing",
         Sample::Starts => "dtools_service_starts_total",
         Sample::Deaths => "dtools_service_deaths_total",
     }
@@ -181,6 +192,11 @@ pub(crate) fn head_text(sample: Sample) -> &'static str
         Sample::WantedUp => {
             "# HELP dtools_service_wanted_up Whether the service is to be up.
 # TYPE dtools_service_wanted_up gauge
+"
+        }
+        Sample::Finishing => {
+            "# HELP dtools_service_finishing Whether the finish of the service runs.
+# TYPE dtools_service_finishing gauge
 "
         }
         Sample::Paused => {

@@ -9,6 +9,7 @@ use Rattle.cmd_svc.specs.declared.services.Unreached.{Unreached}
 -- - It was asked whether it is supervised, and it is, or this is why it was not reached.
 -- - Its status file was read, and these are its first 21 bytes at most, or it could not be read.
 -- - A file `down` was looked for.
+-- - A file `finish` was looked for.
 -- - It was asked when something in its folder `supervise` last changed, and it was at this time, or that was not found.
 -- - It was asked whether there is a folder, and there is, or this is why there is none.
 -- - It was asked for how many hundredths of a second a process has lived, and it was this many, or it does not live.
@@ -17,6 +18,7 @@ pub data Call : Type 0 where
   Reached : (folder : List ℕ) → (fault : Option Unreached) → Call
   ReadStatus : (folder : List ℕ) → (bytes : Option (List ℕ)) → Call
   SoughtDown : (folder : List ℕ) → (found : Bool) → Call
+  SoughtFinish : (folder : List ℕ) → (found : Bool) → Call
   SoughtChange : (folder : List ℕ) → (at : Option ℕ) → Call
   SoughtFolder : (folder : List ℕ) → (fault : Option Cause) → Call
   SoughtAge : (process : ℕ) → (age : Option ℕ) → Call

@@ -71,8 +71,9 @@ plain_line folder status normally_up now =
     ++ want_notes status
 
 -- the line about a service in this folder, without a newline
-abbrev pub status_line : List ℕ → Loaded → Bool → Tai64n → List ℕ
-status_line folder loaded normally_up now =
+abbrev pub status_line : List ℕ → Loaded → Bool → Tai64n → (finishing : Bool) → List ℕ
+status_line folder loaded normally_up now finishing =
     plain_line folder (status_in loaded) normally_up now
     ++ phase_notes loaded
     ++ note (is_exiting loaded) (codes ", exiting")
+    ++ note finishing (codes ", finishing")

@@ -1,14 +1,14 @@
 -- What `svstat` writes, and how it ends (cr.yp.to/daemontools/svstat.html).
-use Rattle.std.specs.Prelude.{◌≡◌, ◌⊎◌, ℕ, Bool, not, List, [], ◌∷◌, ◌++◌, codes, Option, Some, None, Ok}
+use Rattle.std.specs.Prelude.{◌≡◌, ◌⊎◌, ◌&&◌, ℕ, Bool, true, false, not, is_none, List, [], ◌∷◌, ◌++◌, codes, Option, Some, None, Ok}
 use Rattle.std.specs.Prelude.{Err}
 use Rattle.tai_status.specs.Label.{Tai64n}
 use Rattle.tai_status.specs.Counted.{Device, Fails, Reports, Works, Wrote, WroteFront, device_report}
-use Rattle.tai_status.specs.Loading.{loaded_from}
+use Rattle.tai_status.specs.Loading.{loaded_from, status_in}
 use Rattle.tai_status.specs.declared.loading.Loaded.{Loaded}
 use Rattle.tai_status.specs.declared.record.RecordFault.{RecordFault}
 use Rattle.tai_status.specs.declared.record.RecordFault.TheVariants as fault
-use Rattle.cmd_svc.specs.Line.{status_line}
-use Rattle.cmd_svc.specs.Calls.{Call, Reached, ReadStatus, SoughtDown}
+use Rattle.cmd_svc.specs.Line.{is_running, status_line}
+use Rattle.cmd_svc.specs.Calls.{Call, Reached, ReadStatus, SoughtAge, SoughtDown, SoughtFinish}
 use Rattle.cmd_svc.specs.Sight.{Sight, sight}
 use Rattle.tai_status.specs.Extended.{Extended}
 use Rattle.cmd_svc.specs.Turns.{InTurn}
@@ -48,14 +48,35 @@ pub record FindsBad (folder : List ℕ) (cause : RecordFault) (old new : Sight) 
   pub asked : Extended old.calls new.calls (Reached folder None ∷ ReadStatus folder (Some bytes) ∷ [])
   pub unread : new.readings ≡ old.readings
 
--- The bytes that were read are this record. The service is normally up if no file `down` was found, and the clock was
--- read once.
-pub record FindsStatus (folder : List ℕ) (loaded : Loaded) (normally_up : Bool) (now : Tai64n) (old new : Sight)
-    : Type 0 where
+-- the call that asks for the age of a process, if there is a `finish`
+abbrev pub calls_of_finish : (has : Bool) → (pid : ℕ) → (age : Option ℕ) → List Call
+calls_of_finish false pid age = []
+calls_of_finish true pid age = SoughtAge pid age ∷ []
+
+-- It was sought whether the `finish` of a service with this process runs. It does if there is one, and the process does
+-- not live.
+pub record AsksFinish (folder : List ℕ) (pid : ℕ) (finishing : Bool) (old new : Option (List Call)) : Type 0 where
+  pub has : Bool
+  pub age : Option ℕ
+  pub is : finishing ≡ (has && is_none age)
+  pub asked : Extended old new (SoughtFinish folder has ∷ calls_of_finish has pid age)
+
+-- The same, and a service that does not run has no `finish` that runs.
+abbrev pub SeeksFinishing : (runs : Bool) (folder : List ℕ) (pid : ℕ) (finishing : Bool) (old new : Option (List Call))
+    → Type 0
+SeeksFinishing false folder pid finishing old new = (finishing ≡ false) × (new ≡ old)
+SeeksFinishing true folder pid finishing old new = AsksFinish folder pid finishing old new
+
+-- The bytes that were read are this record. The service is normally up if no file `down` was found, it was sought whether
+-- its `finish` runs, and the clock was read once.
+pub record FindsStatus (folder : List ℕ) (loaded : Loaded) (normally_up : Bool) (now : Tai64n) (finishing : Bool)
+    (old new : Sight) : Type 0 where
   pub bytes : List ℕ
+  pub before : Option (List Call)
   pub is : loaded_from bytes ≡ Ok loaded
-  pub asked : Extended old.calls new.calls
+  pub asked : Extended old.calls before
       (Reached folder None ∷ ReadStatus folder (Some bytes) ∷ SoughtDown folder (not normally_up) ∷ [])
+  pub finishes : SeeksFinishing (is_running (status_in loaded)) folder (status_in loaded).pid finishing before new.calls
   pub read : Extended old.readings new.readings (now ∷ [])
 
 -- What a look at the service in a folder found
@@ -63,7 +84,8 @@ abbrev pub Finds : (folder : List ℕ) → Look → (old new : Sight) → Type 0
 Finds folder (look.Unreached why) old new = FindsNone folder why old new
 Finds folder look.Unread old new = FindsUnread folder old new
 Finds folder (look.Bad cause) old new = FindsBad folder cause old new
-Finds folder (look.Standing loaded normally_up now) old new = FindsStatus folder loaded normally_up now old new
+Finds folder (look.Standing loaded normally_up now finishing) old new =
+    FindsStatus folder loaded normally_up now finishing old new
 
 -- Lines
 
@@ -88,7 +110,8 @@ abbrev pub look_line : (folder : List ℕ) → Look → List ℕ
 look_line folder (look.Unreached why) = folder ++ unreached_note why
 look_line folder look.Unread = folder ++ codes ": unable to read status"
 look_line folder (look.Bad cause) = folder ++ codes ": bad status record: " ++ fault_name cause
-look_line folder (look.Standing loaded normally_up now) = status_line folder loaded normally_up now
+look_line folder (look.Standing loaded normally_up now finishing) =
+    status_line folder loaded normally_up now finishing
 
 -- the same as svstat prints it: control characters in the folder's name are escaped, and the line has no others
 abbrev pub shown_line : (folder : List ℕ) → Look → List ℕ

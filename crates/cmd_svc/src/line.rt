@@ -16,7 +16,8 @@ use tai_status::{Label, Loaded, Phase, View, Want};
 /// - `, want up` if it does not run, and is to be up;
 /// - `, want down` if it runs, and is to be down;
 /// - `, starting`, `, settling`, `, resting` or `, gone` if a record of 20 bytes says that supervise is in this phase;
-/// - `, exiting` if a record of 20 bytes says that supervise is to end.
+/// - `, exiting` if a record of 20 bytes says that supervise is to end;
+/// - `, finishing` if its process has ended, and its `finish` runs.
 ///
 /// It runs if its process number is at least 1. The line has no newline. Returns `AllocError` only if the allocator
 /// refuses the memory for the line.
@@ -26,8 +27,10 @@ pub fn stat_line<A: Allocator>(
     loaded: &Loaded,
     normally_up: bool,
     now: &Label,
+    finishing: bool,
 ) -> Result<String<A>, AllocError>
-    ensures { IfOk result (λ line. string_bytes line ≡ status_line dir.now loaded.now normally_up now.now) }
+    ensures { IfOk result (λ line. string_bytes line
+        ≡ status_line dir.now loaded.now normally_up now.now finishing) }
 {
     let view = loaded.view();
     let seconds = now.sec.saturating_sub(view.label.sec);
@@ -42,11 +45,12 @@ pub fn stat_line<A: Allocator>(
     line.push_str(want_note(&view))?;
     line.push_str(phase_note(loaded))?;
     line.push_str(exiting_note(loaded))?;
+    line.push_str(finishing_note(finishing))?;
     Ok(line)
 }
 
 /// Returns whether a service runs.
-fn is_running(view: &View) -> bool
+pub(crate) fn is_running(view: &View) -> bool
     ensures { result ≡ is_running view.now }
 {
     view.pid >= 1
@@ -125,4 +129,11 @@ fn exiting_note(loaded: &Loaded) -> &'static str
         Loaded::New(full) if full.exiting => ", exiting",
         _ => "",
     }
+}
+
+/// Returns the note for a service whose `finish` runs.
+fn finishing_note(finishing: bool) -> &'static str
+    ensures { result.now ≡ note finishing (codes ", finishing") }
+{
+    if finishing { ", finishing" } else { "" }
 }

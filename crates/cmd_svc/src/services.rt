@@ -19,7 +19,7 @@ pub enum Unreached {
 pub trait Services {
     ghost use Rattle.std.specs.Prelude.{◌∷◌, [], Option, Some, None, List, IfOk, IfErr, OnOk, OnErr};
     ghost use Rattle.cmd_svc.specs.Calls.{Call, Sent, Reached, ReadStatus, SoughtAge, SoughtChange, SoughtDown};
-    ghost use Rattle.cmd_svc.specs.Calls.{SoughtFolder};
+    ghost use Rattle.cmd_svc.specs.Calls.{SoughtFinish, SoughtFolder};
     ghost use Rattle.tai_status.specs.Extended.{Extended};
 
     ghost calls: { Self → Option (List Call) } = { λ _. None };
@@ -46,6 +46,10 @@ pub trait Services {
     /// Returns whether the folder of a service has a file `down`.
     fn has_down(&mut self, folder: &str) -> bool
         ensures sought { Extended (calls self.old) (calls self.new) (SoughtDown folder.now result ∷ []) };
+
+    /// Returns whether the folder of a service has a file `finish`.
+    fn has_finish(&mut self, folder: &str) -> bool
+        ensures sought { Extended (calls self.old) (calls self.new) (SoughtFinish folder.now result ∷ []) };
 
     /// Returns when something in the folder `supervise` of the service was last made, replaced or removed, in
     /// nanoseconds since

@@ -81,6 +81,14 @@ fn path_in(folder: &str, rest: &str) -> io::Result<ArrayString<PATH_BYTES>>
     Ok(path)
 }
 
+/// Returns whether there is something in a folder.
+fn is_there<R: Files>(runtime: &R, folder: &str, rest: &str) -> bool {
+    match path_in(folder, rest) {
+        Ok(path) => fs::metadata(runtime, path.as_str()).is_ok(),
+        Err(_) => false,
+    }
+}
+
 /// Returns whether the path of a name in a folder fits into the address of a socket.
 fn is_short(folder: &str, name: &str) -> bool
     ensures { IsTrue result ↔ FitsAddress (folder.now ++ name.now) }
@@ -169,10 +177,11 @@ impl<R: Files<File = File> + Net + Clock + Drop> Services for SystemServices<R> 
     }
 
     fn has_down(&mut self, folder: &str) -> bool {
-        match path_in(folder, "/down") {
-            Ok(path) => fs::metadata(&self.runtime, path.as_str()).is_ok(),
-            Err(_) => false,
-        }
+        is_there(&self.runtime, folder, "/down")
+    }
+
+    fn has_finish(&mut self, folder: &str) -> bool {
+        is_there(&self.runtime, folder, "/finish")
     }
 
     fn changed_at(&mut self, folder: &str) -> Option<u64> {

@@ -1,5 +1,5 @@
 -- What is said about a service: sentences, each by a rule over its status record, its trace and the clock.
-use Rattle.std.specs.Prelude.{ℕ, ◌/◌, ◌%◌, nat_le, ◌==◌, ◌&&◌, not, Bool, if◌then◌else◌, List, [], ◌∷◌, ◌++◌, codes}
+use Rattle.std.specs.Prelude.{ℕ, ◌/◌, ◌%◌, nat_le, ◌==◌, ◌&&◌, not, Bool, false, if◌then◌else◌, List, [], ◌∷◌, ◌++◌, codes}
 use Rattle.std.specs.Prelude.{decimal, Option, Some, None}
 use Rattle.tai_status.specs.Label.{Tai64n}
 use Rattle.tai_status.specs.Record.{Status}
@@ -151,9 +151,19 @@ is_before status end = is_running status && nat_le (nanos (time_of_end end)) (na
 abbrev pub end_opening : (before : Bool) → List ℕ
 end_opening before = if before then codes " Before it process " else codes " Process "
 
--- the sentence about the last end
+-- Whether the `finish` of a service runs: its record has a process, and only the file `exit` says that this process ended
+-- after it began. The death counts after `finish`.
+abbrev pub is_finishing : Status → LastEnd → Bool
+is_finishing status (Recorded exit) =
+    is_running status && ((exit.pid == status.pid) && not (is_before status (Recorded exit)))
+is_finishing status (Traced ended ending) = false
+
+abbrev pub finish_sentence : Status → LastEnd → List ℕ
+finish_sentence status end = note (is_finishing status end) (codes " Its finish runs.")
+
+-- the sentence about the last end, and whether `finish` runs after it
 abbrev pub end_sentence : Status → Option LastEnd → List ℕ
-end_sentence status (Some end) = end_opening (is_before status end) ++ last_words end
+end_sentence status (Some end) = end_opening (is_before status end) ++ last_words end ++ finish_sentence status end
 end_sentence status None = []
 
 -- why a service is down: the last of u, d and o after the start of the process that ended

@@ -2,7 +2,8 @@
 ghost use Rattle.std.specs.Prelude.{◌≡◌, ◌++◌, string_bytes, decimal, codes, IfOk, OnOk};
 ghost use Rattle.cmd_svc.specs.Line.{is_running, note};
 ghost use Rattle.cmd_why.specs.Sentences.{cause_sentence, count_sentence, count_words, end_text, ended_words};
-ghost use Rattle.cmd_why.specs.Sentences.{end_opening, end_sentence, exit_words, how_words, is_before, led_sentences};
+ghost use Rattle.cmd_why.specs.Sentences.{end_opening, end_sentence, exit_words, finish_sentence, how_words, is_before};
+ghost use Rattle.cmd_why.specs.Sentences.{is_finishing, led_sentences};
 ghost use Rattle.cmd_why.specs.Sentences.{last_words, past_sentences, phase_text, process_text, starts_sentence};
 ghost use Rattle.cmd_why.specs.Sentences.{unstarted_text};
 ghost use Rattle.cmd_why.specs.Sentences.{side_text, signal_words, since_text, state_text, want_words, wanted_at};
@@ -50,6 +51,7 @@ use tai_status::{Label, Loaded, Phase, View, Want};
 ///
 /// - `Process N ran S s and ended.` if the trace has it. `Process N ended.` if only the file `exit` has it.
 /// - `Before it process N ..` if the service is up, and the end is no later than the record.
+/// - `Its finish runs.` after that, if the service is up, and only the file `exit` has the end of its process.
 ///
 /// It ended ` with status S` or ` by SIGNAL` if the file `exit` says so about that process. It ended ` after SIGNAL
 /// (C)` if C is the last control byte with a signal between its start and its death, and ` without a control byte` if
@@ -458,6 +460,30 @@ fn end_opening(before: bool) -> &'static str
     }
 }
 
+/// Returns whether the `finish` of a service runs: its record has a process, and only the file `exit` says that this
+/// process ended after it began.
+fn is_finishing(status: &View, end: &LastEnd) -> bool
+    ensures { result ≡ is_finishing status.now end.now }
+{
+    match end {
+        LastEnd::Recorded(exit) => {
+            is_running(status) && exit.pid == status.pid && !is_before(status, end)
+        }
+        LastEnd::Traced(..) => false,
+    }
+}
+
+/// Returns whether the `finish` of a service runs, in a sentence.
+fn finish_sentence(status: &View, end: &LastEnd) -> &'static str
+    ensures { result.now ≡ finish_sentence status.now end.now }
+{
+    if is_finishing(status, end) {
+        " Its finish runs."
+    } else {
+        ""
+    }
+}
+
 /// Writes about the last end of a process, if there is one.
 fn push_end<A: Allocator>(
     out: &mut String<A>,
@@ -469,7 +495,8 @@ fn push_end<A: Allocator>(
     match last {
         Some(end) => {
             out.push_str(end_opening(is_before(status, end)))?;
-            push_last_words(out, end)
+            push_last_words(out, end)?;
+            out.push_str(finish_sentence(status, end))
         }
         None => Ok(()),
     }

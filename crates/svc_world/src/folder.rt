@@ -9,6 +9,7 @@ ghost use Rattle.svc_world.specs.Left.{IsFoundIn, IsOfBoot, IsOneFile, found_ove
 ghost use Rattle.svc_left.specs.Leftover.{HasNumber, IsAwaited};
 ghost use Rattle.svc_left.specs.Process.{IsLiving};
 
+use crate::access::{Access, given};
 use crate::neighbours::Near;
 use crate::processes::{OwnRun, path_of_process, read_front, see_all, tick_of};
 use arrayvec::{ArrayString, ArrayVec};
@@ -19,7 +20,9 @@ use std::fs::{DirBuilder, File, Files, Metadata, OpenOptions, Permissions, TryLo
 use std::io::{Error, ErrorKind, Write};
 use std::net::Net;
 use std::os::fd::AsRawFd;
-use std::os::unix::fs::{DirBuilderExt, FileExt, MetadataExt, OpenOptionsExt, PermissionsExt};
+use std::os::unix::fs::{
+    DirBuilderExt, FileExt, FileTypeExt, MetadataExt, OpenOptionsExt, PermissionsExt,
+};
 use std::sync::Wait;
 use std::time::{Clock, Duration};
 use std::{fs, io, thread};
@@ -106,6 +109,8 @@ fn is_one_file(there: Option<FileId>, here: Option<FileId>) -> bool
 pub struct ServiceFolder {
     files: HostRuntime,
     service: File,
+    // The access of the status record, if an administrator gave it to somebody.
+    status: Option<Access>,
     _lock: File,
 }
 
@@ -129,16 +134,15 @@ fn open_folder<R: Files<File = File>>(runtime: &R, path: &str) -> io::Result<Fil
     fs::open(runtime, path)
 }
 
-/// Makes a folder that only its owner can use. An existing folder gets the same mode.
+/// Makes a folder that only its owner can use, if it does not exist. An existing folder keeps its mode and its owner.
 fn make_private<R: Files<File = File>>(runtime: &R, path: &str) -> io::Result<()> {
     let mut how = DirBuilder::new();
     how.mode(FOLDER_MODE);
     match how.create(runtime, path) {
-        Ok(()) => {}
-        Err(fault) if fault.kind() == ErrorKind::AlreadyExists => {}
-        Err(fault) => return Err(fault),
+        Ok(()) => fs::set_permissions(runtime, path, Permissions::from_mode(FOLDER_MODE)),
+        Err(fault) if fault.kind() == ErrorKind::AlreadyExists => Ok(()),
+        Err(fault) => Err(fault),
     }
-    fs::set_permissions(runtime, path, Permissions::from_mode(FOLDER_MODE))
 }
 
 /// Makes the folder that a link names, for its owner alone. The folder above it must exist.
@@ -182,14 +186,24 @@ pub(crate) fn open_lock<R: Files<File = File>>(runtime: &R, path: &str) -> io::R
     Ok(file)
 }
 
-/// Makes a file with this content, for its owner alone. Removes any file of that name first, and follows no link.
+/// Makes a file with this content, for its owner alone or with this access. Removes any file of that name first, and
+/// follows no link.
 #[inline(never)]
-fn write_private<R: Files<File = File>>(runtime: &R, path: &str, content: &[u8]) -> io::Result<()> {
+fn write_private<R: Files<File = File>>(
+    runtime: &R,
+    path: &str,
+    content: &[u8],
+    access: Option<Access>,
+) -> io::Result<()> {
     remove(runtime, path)?;
     let mut how = OpenOptions::new();
     how.write(true).create_new(true).mode(FILE_MODE);
     let mut file = how.open(runtime, path)?;
     file.set_permissions(Permissions::from_mode(FILE_MODE))?;
+    if let Some(access) = access {
+        // If it can't be given away, it is for its owner alone.
+        let _ = access.give(&file);
+    }
     file.write_all(content)
 }
 
@@ -280,17 +294,6 @@ fn placed(place: &Option<Place>) -> Option<ProcessId>
     }
 }
 
-/// Makes a folder for its owner alone, if it does not exist.
-fn make_missing<R: Files<File = File>>(runtime: &R, path: &str) -> io::Result<()> {
-    let mut how = DirBuilder::new();
-    how.mode(FOLDER_MODE);
-    match how.create(runtime, path) {
-        Ok(()) => fs::set_permissions(runtime, path, Permissions::from_mode(FOLDER_MODE)),
-        Err(fault) if fault.kind() == ErrorKind::AlreadyExists => Ok(()),
-        Err(fault) => Err(fault),
-    }
-}
-
 /// The time until which a lock is tried that somebody else holds. A child that a killed svscan has just made holds that
 /// svscan's locks until it executes its program.
 #[derive(Clone, Copy, Debug, PartialEq, Eq)]
@@ -377,6 +380,21 @@ fn while_held<R: Clock + Wait>(
     unreachable!()
 }
 
+/// Returns the access of the status record in an open folder, if an administrator gave it to somebody.
+fn given_status(files: &HostRuntime, service: &File) -> Option<Access> {
+    let path = path_in(service, "supervise/status");
+    let found = fs::symlink_metadata(files, path.as_str()).ok()?;
+    let before = if found.is_file() { Some(Access::of(&found)) } else { None };
+    given(before, &Access::own(files, FILE_MODE)?)
+}
+
+/// Returns the access of the socket at a path, if an administrator gave it to somebody.
+fn given_socket(files: &HostRuntime, path: &str) -> Option<Access> {
+    let found = fs::symlink_metadata(files, path).ok()?;
+    let before = if found.file_type().is_socket() { Some(Access::of(&found)) } else { None };
+    given(before, &Access::own(files, FILE_MODE)?)
+}
+
 impl ServiceFolder {
     /// Opens svscan's own folder at a path in the same way as that of a service. Makes the folder if it is missing.
     /// While another svscan holds it, nothing there is changed, not even a time.
@@ -387,7 +405,7 @@ impl ServiceFolder {
     ) -> Result<ServiceFolder, FolderFault> {
         let patience = Patience::of(rt, OWN_PATIENCE);
         while_held(rt, &files, path, &patience)?;
-        make_missing(&files, path)?;
+        make_private(&files, path)?;
         ServiceFolder::open(rt, files, path, &patience)
     }
 
@@ -404,11 +422,15 @@ impl ServiceFolder {
         make_supervise(&files, files.alloc(), path_in(&service, ".").as_str())?;
         let lock = open_lock(&files, path_in(&service, "supervise/lock").as_str())?;
         match patience.lock(rt, &lock) {
-            Ok(()) => Ok(ServiceFolder {
-                files,
-                service,
-                _lock: lock,
-            }),
+            Ok(()) => {
+                let status = given_status(&files, &service);
+                Ok(ServiceFolder {
+                    files,
+                    service,
+                    status,
+                    _lock: lock,
+                })
+            }
             Err(TryLockError::WouldBlock) => Err(FolderFault::Locked),
             Err(TryLockError::Error(fault)) => Err(FolderFault::from(fault)),
         }
@@ -421,8 +443,20 @@ impl ServiceFolder {
         path_in(&self.service, name)
     }
 
-    /// Listens at a socket with this name. Removes an old file of that name first.
+    /// Listens at a socket with this name. It replaces an old file of that name. If an administrator gave an old socket
+    /// to somebody, the new one has the same owner and mode.
     fn listen<R: Files + Net>(&self, rt: &R, name: &str) -> io::Result<UnixListener>
+        requires { length name.now ≤ 23 }
+    {
+        match given_socket(&self.files, self.path(name).as_str()) {
+            Some(access) => self.listen_for(rt, name, &access),
+            None => self.listen_alone(rt, name),
+        }
+    }
+
+    /// Listens at a new socket with this name, for the owner alone. Removes an old file of that name first.
+    #[inline(never)]
+    fn listen_alone<R: Files + Net>(&self, rt: &R, name: &str) -> io::Result<UnixListener>
         requires { length name.now ≤ 23 }
     {
         let path = self.path(name);
@@ -434,6 +468,49 @@ impl ServiceFolder {
             Permissions::from_mode(FILE_MODE),
         )?;
         Ok(listener)
+    }
+
+    /// Listens at a new socket with this access, which then gets this name. It is made in a folder that nobody else can
+    /// change, so that nobody else can use it before it has its access, or put another file in its place.
+    #[inline(never)]
+    fn listen_for<R: Files + Net>(
+        &self,
+        rt: &R,
+        name: &str,
+        access: &Access,
+    ) -> io::Result<UnixListener>
+        requires { length name.now ≤ 23 }
+    {
+        let room = self.private_room()?;
+        let made = path_in(&room, "socket");
+        remove(&self.files, made.as_str())?;
+        let listener = UnixListener::bind(rt, made.as_str())?;
+        fs::set_permissions(
+            &self.files,
+            made.as_str(),
+            Permissions::from_mode(FILE_MODE),
+        )?;
+        // If it can't be given away, it is for its owner alone.
+        let _ = access.give_at(&self.files, made.as_str());
+        fs::rename(&self.files, made.as_str(), self.path(name).as_str())?;
+        fs::remove_dir(&self.files, self.path("supervise/room").as_str())?;
+        Ok(listener)
+    }
+
+    /// Opens the folder `supervise/room`, which only this process's account can change. It is made if it is missing.
+    fn private_room(&self) -> io::Result<File> {
+        let path = self.path("supervise/room");
+        make_private(&self.files, path.as_str())?;
+        let room = open_folder(&self.files, path.as_str())?;
+        let found = room.metadata()?;
+        let is_own = Access::own(&self.files, FOLDER_MODE) == Some(Access::of(&found));
+        // A link to another folder of this account is not that folder.
+        let there = FileId::found(fs::symlink_metadata(&self.files, path.as_str()));
+        if is_own && is_one_file(there, FileId::found(Ok(found))) {
+            Ok(room)
+        } else {
+            Err(Error::from(ErrorKind::PermissionDenied))
+        }
     }
 
     /// Listens at the socket that takes control bytes.
@@ -453,14 +530,28 @@ impl ServiceFolder {
         control.and(ok)
     }
 
-    /// Replaces the content of a file as a whole.
-    #[inline(never)]
+    /// Replaces a file as a whole, by one with this content, for its owner alone.
     fn replace(&self, file: &str, new: &str, content: &[u8]) -> io::Result<()>
         requires file { length file.now ≤ 23 }
         requires new { length new.now ≤ 23 }
     {
+        self.replace_with(file, new, content, None)
+    }
+
+    /// Replaces a file as a whole, by one with this content and this access.
+    #[inline(never)]
+    fn replace_with(
+        &self,
+        file: &str,
+        new: &str,
+        content: &[u8],
+        access: Option<Access>,
+    ) -> io::Result<()>
+        requires file { length file.now ≤ 23 }
+        requires new { length new.now ≤ 23 }
+    {
         let new = self.path(new);
-        write_private(&self.files, new.as_str(), content)?;
+        write_private(&self.files, new.as_str(), content, access)?;
         fs::rename(&self.files, new.as_str(), self.path(file).as_str())
     }
 
@@ -468,7 +559,13 @@ impl ServiceFolder {
     /// After a fault the old bytes are there.
     #[inline(never)]
     pub fn replace_status(&self, bytes: &[u8]) -> io::Result<()> {
-        match self.replace("supervise/status", "supervise/status.new", bytes) {
+        let replaced = self.replace_with(
+            "supervise/status",
+            "supervise/status.new",
+            bytes,
+            self.status,
+        );
+        match replaced {
             Ok(()) => Ok(()),
             Err(fault) => {
                 let path = self.path("supervise/status");

@@ -13,6 +13,7 @@
 //! `ChildReaper`, `AdoptionWatch`, `SignalShell`.
 #![tactic(auto)]
 
+mod access;
 mod adoption;
 mod begin;
 mod child_reaper;

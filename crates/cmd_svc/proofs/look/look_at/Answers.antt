@@ -21,10 +21,12 @@ returns-in-Ok-decode_front g c =
     let is : loaded_from bytes ≡ Ok c.in-Ok-decode_front.loaded = search rules in
     record {
       bytes = bytes;
+      before = now;
       is = is;
       asked = extended-then past read now (Reached folder None ∷ ReadStatus folder (Some bytes) ∷ [])
           (SoughtDown folder (not (not c.has_down.result)) ∷ [])
           (extended-then past asked read (Reached folder None ∷ []) (ReadStatus folder (Some bytes) ∷ []) first second)
           third;
+      finishes = c.is_finishing.ensures;
       read = c.now.ensures;
     }
