@@ -4,4 +4,4 @@
 pub(crate) const KIT: &str = "rattle-kit-13f logic dac8208d650f15bf";
 
 /// The sum of its sources, as packaging/source-sum says it.
-pub(crate) const SOURCE: &str = "aa3dae82806992eebe6863c9317dd642abae1a2dc418953b9876323221d73739";
+pub(crate) const SOURCE: &str = "57800fcaabb6ca1e0de50cee01910a37fb8d0d7e5c09f574da114eee1de6384d";

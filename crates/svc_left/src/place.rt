@@ -265,7 +265,11 @@ impl Place {
         ensures process { result ≡ finish_in self.now }
         ensures number { IfSome result (λ process. 0 < process.pid) }
     {
-        if self.is_finish { self.occupant() } else { None }
+        if self.is_finish {
+            self.occupant()
+        } else {
+            None
+        }
     }
 
     /// Returns whether both are from one run of the system: they have the same boot and the same first process.

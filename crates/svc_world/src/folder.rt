@@ -384,14 +384,22 @@ fn while_held<R: Clock + Wait>(
 fn given_status(files: &HostRuntime, service: &File) -> Option<Access> {
     let path = path_in(service, "supervise/status");
     let found = fs::symlink_metadata(files, path.as_str()).ok()?;
-    let before = if found.is_file() { Some(Access::of(&found)) } else { None };
+    let before = if found.is_file() {
+        Some(Access::of(&found))
+    } else {
+        None
+    };
     given(before, &Access::own(files, FILE_MODE)?)
 }
 
 /// Returns the access of the socket at a path, if an administrator gave it to somebody.
 fn given_socket(files: &HostRuntime, path: &str) -> Option<Access> {
     let found = fs::symlink_metadata(files, path).ok()?;
-    let before = if found.file_type().is_socket() { Some(Access::of(&found)) } else { None };
+    let before = if found.file_type().is_socket() {
+        Some(Access::of(&found))
+    } else {
+        None
+    };
     given(before, &Access::own(files, FILE_MODE)?)
 }
 
@@ -740,13 +748,7 @@ impl ServiceFolder {
     /// Looks once at all processes, and returns what is left over from a start that an earlier svscan intended. If it
     /// can't look at them, the result is not sure.
     #[inline(never)]
-    fn find_left(
-        &self,
-        alloc: Global,
-        own: &OwnRun,
-        place: &Place,
-        near: &Near,
-    ) -> Leftover
+    fn find_left(&self, alloc: Global, own: &OwnRun, place: &Place, near: &Near) -> Leftover
         ensures { HasNumber result }
     {
         let intent = Intent {
@@ -784,8 +786,10 @@ impl ServiceFolder {
     /// Returns the text of `timeout-finish`. Returns None if there is no such file.
     #[inline(never)]
     pub(crate) fn finish_time(&self) -> Option<SettingText> {
-        read_front::<HostRuntime, SETTING_BYTES>(&self.files, self.path("timeout-finish").as_str())
-            .ok()
+        read_front::<HostRuntime, SETTING_BYTES>(
+            &self.files,
+            self.path("timeout-finish").as_str(),
+        ).ok()
     }
 
     /// Returns what is left over of a `finish` with this process.

@@ -598,7 +598,11 @@ impl<C: ChildSystem + Drop> ChildWorld<C> {
         ensures spawns { SpawnsFinishIf intended exit.now result self.old self.new }
         ensures number { IfSome result (λ pid. 0 < pid) }
     {
-        if intended { self.system.finish(exit) } else { None }
+        if intended {
+            self.system.finish(exit)
+        } else {
+            None
+        }
     }
 
     // Records that a `finish` is over, and then reports the death, or keeps it while control bytes come.
@@ -638,7 +642,11 @@ impl<C: ChildSystem + Drop> ChildWorld<C> {
     fn finish_if(&mut self, has: bool, exit: Exit) -> Option<Label>
         ensures { FinishesIf has exit result self.old self.new }
     {
-        if has { self.begin_finish(exit) } else { self.know_death(exit) }
+        if has {
+            self.begin_finish(exit)
+        } else {
+            self.know_death(exit)
+        }
     }
 
     // Continues after a death was found.
