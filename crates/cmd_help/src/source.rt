@@ -4,4 +4,4 @@
 pub(crate) const KIT: &str = "rattle-kit-13f logic dac8208d650f15bf";
 
 /// The sum of its sources, as packaging/source-sum says it.
-pub(crate) const SOURCE: &str = "aa3dae82806992eebe6863c9317dd642abae1a2dc418953b9876323221d73739";
+pub(crate) const SOURCE: &str = "8f900ca88f5d769d5e9c02715a6b9d721a653cbe4ccb42d07a1a478ac1c3471d";
