@@ -4,4 +4,4 @@
 pub(crate) const KIT: &str = "rattle-kit-13f logic dac8208d650f15bf";
 
 /// The sum of its sources, as packaging/source-sum says it.
-pub(crate) const SOURCE: &str = "8f900ca88f5d769d5e9c02715a6b9d721a653cbe4ccb42d07a1a478ac1c3471d";
+pub(crate) const SOURCE: &str = "6fa63f819f3806ad1a43cc7e09d894277f4c5aff8d2ae802afc355e9549d74ab";

@@ -22,7 +22,7 @@ use Rattle.cmd_wait.specs.declared.finding.WaitState.TheVariants as state
 use Rattle.cmd_wait.specs.declared.finding.WaitFault.{WaitFault}
 use Rattle.cmd_wait.specs.declared.options.Options.{Options}
 use Rattle.cmd_wait.specs.declared.marking.Purpose.{Purpose}
-use Rattle.cmd_wait.specs.declared.marking.Purpose.TheVariants as purpose
+use Rattle.cmd_wait.specs.declared.marking.Purpose.TheVariants as aim
 use Rattle.cmd_wait.specs.declared.finding.WaitFault.TheVariants as fault
 
 -- What `wait` works with: the calls and steps so far, and the device on which it reports faults.
@@ -60,15 +60,15 @@ abbrev pub wait_name : List ℕ
 wait_name = codes "wait: "
 
 -- what a command reports about a service; and about a lack of memory
-abbrev pub report_of : (command folder note : List ℕ) → List ℕ
-report_of command folder note = command ++ (folder ++ note)
+abbrev pub report_of : (name folder note : List ℕ) → List ℕ
+report_of name folder note = name ++ (folder ++ note)
 
-abbrev pub memory_report : (command : List ℕ) → List ℕ
-memory_report command = command ++ codes "OutOfMemory" ++ 10 ∷ []
+abbrev pub memory_report : (name : List ℕ) → List ℕ
+memory_report name = name ++ codes "OutOfMemory" ++ 10 ∷ []
 
 -- It was reported about a service that the time is over.
-abbrev pub ReportsOver : (command : List ℕ) → WaitState → (folder : List ℕ) (old new : Device) → Type 0
-ReportsOver command state folder old new = Reports old new (report_of command folder (over_note state))
+abbrev pub ReportsOver : (name : List ℕ) → WaitState → (folder : List ℕ) (old new : Device) → Type 0
+ReportsOver name state folder old new = Reports old new (report_of name folder (over_note state))
 
 -- the exit status for a service that can't be waited for
 abbrev pub fault_status : WaitFault → ℕ
@@ -92,7 +92,7 @@ pub record Reaches (order : Order) (asked : List Awaited) (before : List Look) (
   pub found : (one : Awaited) → IsAmong one asked → IsFound order.goal one (before ++ takes.looked.looks)
 
 -- It left services, and the time was over when it began: the status is 99, and each of these services is reported.
-pub record RunsOut (command : List ℕ) (order : Order) (begin : ℕ) (services : List Awaited) (status : ℕ)
+pub record RunsOut (name : List ℕ) (order : Order) (begin : ℕ) (services : List Awaited) (status : ℕ)
     (old new : Scene) : Type 0 where
   pub now : ℕ
   pub left : List Awaited
@@ -100,11 +100,11 @@ pub record RunsOut (command : List ℕ) (order : Order) (begin : ℕ) (services 
   pub some : left ≢ []
   pub over : IsOver order.limit begin now
   pub status_is : status ≡ 99
-  pub reported : InTurn (ReportsOver command order.goal.state) (folders left) old.faults new.faults
+  pub reported : InTurn (ReportsOver name order.goal.state) (folders left) old.faults new.faults
 
 -- A look found a service that can't be waited for. It is reported why, with the status for that, and no service after
 -- it is looked at.
-pub record Fails (command : List ℕ) (order : Order) (services : List Awaited) (status : ℕ) (old new : Scene)
+pub record Fails (name : List ℕ) (order : Order) (services : List Awaited) (status : ℕ) (old new : Scene)
     : Type 0 where
   pub now : ℕ
   pub folder : List ℕ
@@ -112,17 +112,17 @@ pub record Fails (command : List ℕ) (order : Order) (services : List Awaited) 
   pub read : Extended old.sight.steps new.sight.steps (Read now ∷ [])
   pub fails : FailsAt order.goal services folder fault old.sight.calls new.sight.calls
   pub status_is : status ≡ fault_status fault
-  pub reported : Reports old.faults new.faults (report_of command folder (fault_note fault))
+  pub reported : Reports old.faults new.faults (report_of name folder (fault_note fault))
 
 -- How the last round ends, after these looks and with the services that they left.
-abbrev pub EndsBy : (command : List ℕ) (order : Order) (asked : List Awaited) (begin : ℕ) (before : List Look)
+abbrev pub EndsBy : (name : List ℕ) (order : Order) (asked : List Awaited) (begin : ℕ) (before : List Look)
     (services : List Awaited) (status : ℕ) (old new : Scene) → Type 0
-EndsBy command order asked begin before services status old new =
+EndsBy name order asked begin before services status old new =
     Reaches order asked before services status old new
-    ⊎ (RunsOut command order begin services status old new ⊎ Fails command order services status old new)
+    ⊎ (RunsOut name order begin services status old new ⊎ Fails name order services status old new)
 
 -- The clock is read. Then rounds over the services that are asked for follow, and the last one ends the wait.
-pub record WaitsFor (command : List ℕ) (order : Order) (asked : List Awaited) (status : ℕ) (old new : Scene)
+pub record WaitsFor (name : List ℕ) (order : Order) (asked : List Awaited) (status : ℕ) (old new : Scene)
     : Type 0 where
   pub begin : ℕ
   pub begun : Sight
@@ -131,32 +131,32 @@ pub record WaitsFor (command : List ℕ) (order : Order) (asked : List Awaited) 
   pub read : Extended old.sight.steps begun.steps (Read begin ∷ [])
   pub unasked : begun.calls ≡ old.sight.calls
   pub waits : Waits order begin asked (watched first_watch begun) left middle
-  pub ends : EndsBy command order asked begin (looks_of waits) left status (scene middle.sight old.faults) new
+  pub ends : EndsBy name order asked begin (looks_of waits) left status (scene middle.sight old.faults) new
 
 -- First looks
 
 -- A first look found a service that can have no mark. It is reported why, with the status for that. The pace was not
 -- asked, and nothing was sent: all calls are those of first looks.
-pub record FailsFirst (command : List ℕ) (purpose : Purpose) (order : Order) (status : ℕ) (old new : Scene)
+pub record FailsFirst (name : List ℕ) (purpose : Purpose) (order : Order) (status : ℕ) (old new : Scene)
     : Type 0 where
   pub folder : List ℕ
   pub fault : WaitFault
   pub fails : MarksNot purpose order.goal.awaits_supervision order.services folder fault old.sight.calls new.sight.calls
   pub unrested : new.sight.steps ≡ old.sight.steps
   pub status_is : status ≡ fault_status fault
-  pub reported : Reports old.faults new.faults (report_of command folder (fault_note fault))
+  pub reported : Reports old.faults new.faults (report_of name folder (fault_note fault))
 
 -- Each service got its mark by a first look, and is then waited for.
 pub record MarksThenWaits (order : Order) (status : ℕ) (old new : Scene) : Type 0 where
   pub marked : List Awaited
   pub calls : Option (List Call)
-  pub marks : MarksEach purpose.Waits order.goal.awaits_supervision order.services marked old.sight.calls calls
+  pub marks : MarksEach aim.Waits order.goal.awaits_supervision order.services marked old.sight.calls calls
   pub waits : WaitsFor wait_name order marked status (scene (sight calls old.sight.steps) old.faults) new
 
 -- It does so, or a first look found a service that can have no mark.
 abbrev pub MarksOrFails : (order : Order) (status : ℕ) (old new : Scene) → Type 0
 MarksOrFails order status old new =
-    FailsFirst wait_name purpose.Waits order status old new ⊎ MarksThenWaits order status old new
+    FailsFirst wait_name aim.Waits order status old new ⊎ MarksThenWaits order status old new
 
 -- For another process, there are first looks. Otherwise services are waited for without marks.
 abbrev pub WaitsByState : WaitState → (order : Order) (status : ℕ) (old new : Scene) → Type 0
@@ -164,9 +164,9 @@ WaitsByState state.Another order status old new = MarksOrFails order status old 
 WaitsByState other order status old new = WaitsFor wait_name order (unmarked order.services) status old new
 
 -- After all that, it is reported for each folder that does not exist why.
-pub record TellsAfter (command : List ℕ) (order : Order) (old new : Scene) : Type 0 where
+pub record TellsAfter (name : List ℕ) (order : Order) (old new : Scene) : Type 0 where
   pub rested : new.sight.steps ≡ old.sight.steps
-  pub told : TellsEach command order.services (telling old.sight.calls old.faults) (telling new.sight.calls new.faults)
+  pub told : TellsEach name order.services (telling old.sight.calls old.faults) (telling new.sight.calls new.faults)
 
 -- It waits, and then it is reported for each folder that does not exist why.
 pub record WaitsThenTells (order : Order) (status : ℕ) (old new : Scene) : Type 0 where
@@ -179,10 +179,10 @@ abbrev pub order_of : Options → Order
 order_of options = order options.goal options.limit (texts options.services.now)
 
 -- It waits for services as the options say.
-abbrev pub WaitsAsked : (command : List ℕ) → Options → (asked : List Awaited) (status : ℕ)
+abbrev pub WaitsAsked : (name : List ℕ) → Options → (asked : List Awaited) (status : ℕ)
     → (calls looked : Option (List Call)) → (steps taken : Option (List Step)) → (faults reports : Device) → Type 0
-WaitsAsked command options asked status calls looked steps taken faults reports =
-    WaitsFor command (order_of options) asked status
+WaitsAsked name options asked status calls looked steps taken faults reports =
+    WaitsFor name (order_of options) asked status
     (scene (sight calls steps) faults) (scene (sight looked taken) reports)
 
 -- The same after first looks, and after those that there are
@@ -215,10 +215,10 @@ pub record RefusesWords (words : List (List ℕ)) (status : ℕ) (old new : Scen
   pub reported : Reports old.faults new.faults (usage_text command.Wait)
 
 -- There is no memory for the list of services that are left: nothing is asked, and the lack is reported.
-pub record LacksMemory (command : List ℕ) (status : ℕ) (old new : Scene) : Type 0 where
+pub record LacksMemory (name : List ℕ) (status : ℕ) (old new : Scene) : Type 0 where
   pub status_is : status ≡ 111
   pub unasked : new.sight ≡ old.sight
-  pub reported : Reports old.faults new.faults (memory_report command)
+  pub reported : Reports old.faults new.faults (memory_report name)
 
 -- It waits as its words ask.
 pub record WaitsWords (words : List (List ℕ)) (status : ℕ) (old new : Scene) : Type 0 where

@@ -91,11 +91,11 @@ MarksEach purpose awaits_supervision folders marked old new =
 
 -- The services before one got their marks, and that one can have none. Those after it were not looked at.
 pub record MarksNot (purpose : Purpose) (awaits_supervision : Bool) (folders : List (List ℕ)) (folder : List ℕ)
-    (fault : WaitFault) (old new : Option (List Call)) : Type 0 where
+    (cause : WaitFault) (old new : Option (List Call)) : Type 0 where
   pub before : List (List ℕ)
   pub after : List (List ℕ)
   pub middle : Option (List Call)
   pub marked : List Awaited
   pub split : folders ≡ before ++ folder ∷ after
   pub marks : MarksEach purpose awaits_supervision before marked old middle
-  pub glimpses : Glimpses purpose awaits_supervision folder (Err fault) middle new
+  pub glimpses : Glimpses purpose awaits_supervision folder (Err cause) middle new
