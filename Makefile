@@ -15,7 +15,7 @@ DESTDIR ?=
 NAMES ?=
 JOBS ?=
 PROGRAM ?= crates/dtools/out/dtools
-COMMANDS = svscan svc svstat svok svwait tai64n tai64nlocal readproctitle
+COMMANDS = svscan svc svstat svok svwait svrestart tai64n tai64nlocal readproctitle
 # Scripts with a text of their own: multilog and envdir over the program, the others over tools of the system.
 SCRIPTS = multilog envdir setuidgid envuidgid softlimit setlock pgrphack fghack
 # Scripts that no other suite has a name of.
@@ -36,7 +36,7 @@ PATHS = $(foreach tool,$(USED),s|/usr/bin/$(tool) |$(or $(if $(TOOLS),$(TOOLS)/$
 # A script as it is installed: the paths of the program, of the tools and of the folder of services are absolute.
 SCRIPT = sed '$(PATHS) s|"$${DTOOLS:-dtools}"|$(PREFIX)/bin/dtools|g; s|$${DTOOLS:-dtools}|$(PREFIX)/bin/dtools|g; s|/etc/dtools/service|$(SERVICES)|g' scripts/$(1)
 # Whose completion is that of dtools.
-COMPLETED = svc svstat svok svwait setuidgid envuidgid softlimit setlock pgrphack fghack
+COMPLETED = svc svstat svok svwait svrestart setuidgid envuidgid softlimit setlock pgrphack fghack
 
 .PHONY: try build test check install uninstall package tarball release
 
@@ -68,7 +68,7 @@ install:
 	install -d $(BIN) $(PLACES) $(COMPLETIONS) $(DESTDIR)$(UNITS) $(DESTDIR)$(SERVICES) $(addprefix $(MANUAL)/man,1 5 7 8)
 	install -m 755 $(PROGRAM) $(BIN)/dtools
 	for place in $(PLACES); do for command in $(COMMANDS); do \
-	  case $$command in svwait) word=wait ;; *) word=$$command ;; esac; \
+	  case $$command in svwait) word=wait ;; svrestart) word=restart ;; *) word=$$command ;; esac; \
 	  printf '#!/bin/sh\nexec $(PREFIX)/bin/dtools %s "$$@"\n' $$word >$$place/$$command && chmod 755 $$place/$$command; \
 	done; done
 	for place in $(PLACES); do for script in $(SCRIPTS); do \

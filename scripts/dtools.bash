@@ -16,7 +16,7 @@ _dtools() {
   local word=${COMP_WORDS[COMP_CWORD]} before=${COMP_WORDS[COMP_CWORD - 1]} command=${COMP_WORDS[0]##*/}
   if [ "$command" = dtools ]; then
     if [ "$COMP_CWORD" = 1 ]; then
-      mapfile -t COMPREPLY < <(compgen -W 'svscan svc svstat svok wait multilog tai64n tai64nlocal envdir readproctitle sim trace why help version' -- "$word")
+      mapfile -t COMPREPLY < <(compgen -W 'svscan svc svstat svok wait restart multilog tai64n tai64nlocal envdir readproctitle sim trace why help version' -- "$word")
       return
     fi
     command=${COMP_WORDS[1]}
@@ -25,11 +25,12 @@ _dtools() {
     svc:-*) mapfile -t COMPREPLY < <(compgen -W '-u -d -o -p -c -h -a -i -t -k -x -1 -2 -q -dx -W' -- "$word") ;;
     svstat:-*) mapfile -t COMPREPLY < <(compgen -W '--json --metrics' -- "$word") ;;
     why:-*) mapfile -t COMPREPLY < <(compgen -W '--timeline' -- "$word") ;;
-    wait:-* | svwait:-*) mapfile -t COMPREPLY < <(compgen -W '-u -d -x -t' -- "$word") ;;
-    wait:*:-t | svwait:*:-t) ;;
-    svc:* | svstat:* | svok:* | why:* | wait:* | svwait:*) _dtools_services ;;
+    wait:-* | svwait:-*) mapfile -t COMPREPLY < <(compgen -W '-u -d -x -r -t' -- "$word") ;;
+    restart:-* | svrestart:-*) mapfile -t COMPREPLY < <(compgen -W '-t' -- "$word") ;;
+    wait:*:-t | svwait:*:-t | restart:*:-t | svrestart:*:-t) ;;
+    svc:* | svstat:* | svok:* | why:* | wait:* | svwait:* | restart:* | svrestart:*) _dtools_services ;;
     svscan:*) mapfile -t COMPREPLY < <(compgen -d -- "$word") ;;
-    help:*) mapfile -t COMPREPLY < <(compgen -W 'svscan svc svstat svok wait multilog tai64n tai64nlocal envdir readproctitle sim trace why svscan-run svscan-stop dtools-service setuidgid envuidgid softlimit setlock pgrphack fghack' -- "$word") ;;
+    help:*) mapfile -t COMPREPLY < <(compgen -W 'svscan svc svstat svok wait restart multilog tai64n tai64nlocal envdir readproctitle sim trace why svscan-run svscan-stop dtools-service setuidgid envuidgid softlimit setlock pgrphack fghack' -- "$word") ;;
     sim:*) mapfile -t COMPREPLY < <(compgen -W 'table' -- "$word") ;;
     trace:*:--break)
       mapfile -t COMPREPLY < <(compgen -W 'byte: phase:up phase:down phase:gone signal:TERM signal:KILL' -- "$word")
@@ -38,7 +39,7 @@ _dtools() {
     *) mapfile -t COMPREPLY < <(compgen -f -- "$word") ;;
   esac
 }
-complete -o filenames -F _dtools dtools svc svstat svok svwait
+complete -o filenames -F _dtools dtools svc svstat svok svwait svrestart
 complete -u -c setuidgid envuidgid
 complete -f -c setlock
 complete -c softlimit pgrphack fghack

@@ -373,7 +373,7 @@ def commands():
     for words in ["tai64n", "tai64nlocal", "sim table", "trace d/web/supervise/trace --break phase:gone",
                   "svstat d/web d/db nowhere", "svstat --json d/web d/db", "svstat --metrics d/web d/db", "svc -u d/web d/db",
                   "svc -W -u d/web", "svc -du -t -- -x d/web", "svok d/web", "why d/web",
-                  "wait -x -t 0 d/web", "envdir env true", "envdir --shell env", "help svc"]:
+                  "wait -x -t 0 d/web", "wait -r -t 0 d/web", "restart -t 0 d/web", "envdir env true", "envdir --shell env", "help svc"]:
         starves(*words.split())
     for words in ["multilog s4096 n1 ./log", "multilog ./log t", "multilog ./log ./log", "svc -uy d/web"]:
         starves(*words.split(), are_wrong=True)

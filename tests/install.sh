@@ -11,16 +11,16 @@ run_make() { make -s -C "$top" PROGRAM="$program" DESTDIR="$room/root" PREFIX=/u
 found() { sorted "$(cd root 2>/dev/null && find . -type f -o -type l)"; }
 # sorted PATHS: paths on one line, in byte order
 sorted() { echo $1 | tr ' ' '\n' | LC_ALL=C sort | xargs; }
-wrappers() { printf "./usr/local/$1/%s " envdir envuidgid fghack multilog pgrphack readproctitle setlock setuidgid softlimit svc svok svscan svstat svwait tai64n tai64nlocal; }
+wrappers() { printf "./usr/local/$1/%s " envdir envuidgid fghack multilog pgrphack readproctitle setlock setuidgid softlimit svc svok svrestart svscan svstat svwait tai64n tai64nlocal; }
 completions=$(printf './usr/local/share/bash-completion/completions/%s ' dtools envuidgid fghack pgrphack setlock setuidgid softlimit svc svok \
-  svstat svwait)
+  svrestart svstat svwait)
 # pages SECTION NAME..
 pages() {
   local section=$1
   shift
   printf "./usr/local/share/man/man$section/%s.$section.gz " "$@"
 }
-commands='envdir envuidgid fghack multilog pgrphack readproctitle service setlock setuidgid softlimit svc svok svscan svscan-run
+commands='envdir envuidgid fghack multilog pgrphack readproctitle restart service setlock setuidgid softlimit svc svok svscan svscan-run
   svscan-stop svstat tai64n tai64nlocal wait'
 manual="$(pages 1 dtools dtools-sim dtools-trace dtools-why) $(pages 5 dtools-formats) $(pages 7 dtools)
   $(pages 8 $(printf 'dtools-%s ' $commands))"
@@ -86,6 +86,8 @@ is 'completion of a command' 'svscan svc svstat svok' "$(completes dtools sv)"
 is 'completion of a service' 'services/web services/web/log' "$(completes svc -t services/w)"
 is 'completion of an option' '-u' "$(completes svwait -u)"
 is 'completion of a service to wait for' 'services/db' "$(completes svwait -d services/d)"
+is 'completion of a service to restart' 'services/db' "$(completes svrestart services/d)"
+is 'completion of the options of restart' '-t' "$(completes dtools restart -)"
 is 'completion of a service of dtools' 'services/db' "$(completes dtools svstat services/d)"
 
 make -s -C "$top" PROGRAM="$room/none" DESTDIR="$room/root" install >/dev/null 2>reported

@@ -64,7 +64,7 @@ for page in "$pages"/man*/*.gz; do
   rm -rf session
 done
 # Sections: these, in this order, and of the others those that apply.
-files=' envdir envuidgid multilog dtools-service setlock setuidgid svc svok svscan svscan-run svscan-stop svstat tai64nlocal trace wait why dtools '
+files=' envdir envuidgid multilog dtools-service setlock setuidgid svc svok svscan svscan-run svscan-stop svstat tai64nlocal trace wait restart why dtools '
 # section PAGE NAME: the text of a section
 section() { awk -v name="$2" '/^\.Sh / { shows = substr($0, 5) == name; next } shows' "$1"; }
 for name in *.[18]; do
@@ -118,14 +118,14 @@ while IFS= read -r text; do
   is "FORMATS has: $text" yes "$(grep -qF -- "$text" "$top/docs/FORMATS.md" && echo yes)"
 done < <({
   cat "$top"/crates/{cmd_*,svscan_rounds,svc_world,dtools}/src/*.rt 2>/dev/null | grep -vE 'error\(|^ *//' |
-    grep -oE '"[^"]*(unable to|still runs|still supervised|not up in|not down in|were not|are needed|not text|written again|listed again|no text|not running|no answer)[^"]*"' |
+    grep -oE '"[^"]*(unable to|still runs|still supervised|not up in|not down in|not restarted in|not wanted up|were not|are needed|not text|written again|listed again|no text|not running|no answer)[^"]*"' |
     sed -E 's/^"[: ]*//; s/(\\n)?"$//; s/[: ]*$//'
   for script in multilog envdir envuidgid setuidgid setlock softlimit pgrphack fghack svscan-run svscan-stop dtools-service; do
     grep -vE '^ *#' "$top/scripts/$script" | grep -E '>&2|fail ' |
       grep -oE '(no [a-z]+ [a-z ]+|unable to [a-z]+|unknown account|it [a-z]+ [a-z ]+|is not served in|still runs)' | sed 's/ *$//'
   done
 } | sort -u)
-for command in svscan svc svstat svok wait multilog tai64n tai64nlocal envdir readproctitle; do
+for command in svscan svc svstat svok wait restart multilog tai64n tai64nlocal envdir readproctitle; do
   is "a page of $command" yes "$([ -e "$pages/man8/dtools-$command.8.gz" ] && echo yes)"
 done
 if command -v mandoc >/dev/null; then

@@ -1,5 +1,5 @@
 #!/usr/bin/env bash
-# When `dtools wait` returns, and what it says, over services of a real svscan and over folders that are made here: sockets at
+# When `dtools wait` and `dtools restart` return, and what they say, over services of a real svscan and over folders that are made here: sockets at
 # which python3 listens, and status records of given bytes. Runs the program that the first word names. The wanted lines
 # and statuses are those of docs/FORMATS.md. No check rests on how fast this machine is: each waits for what it needs.
 # gate: 60 seconds, needs python3
@@ -25,10 +25,16 @@ until_true() {
 }
 
 # ended NAME STATUS REPORTED WORDS..: wait with these words ends by itself, with this status, and says this
-ended() {
-  local name=$1 status=$2 reported=$3
-  shift 3
-  timeout -k 1 120 "$program" wait "$@" >out 2>reported </dev/null
+ended() { ends wait "$@"; }
+
+# restarted NAME STATUS REPORTED WORDS..: the same of restart
+restarted() { ends restart "$@"; }
+
+# ends COMMAND NAME STATUS REPORTED WORDS..
+ends() {
+  local command=$1 name=$2 status=$3 reported=$4
+  shift 4
+  timeout -k 1 120 "$program" "$command" "$@" >out 2>reported </dev/null
   is "$name: status" "$status" "$?"
   is "$name: reported" "$reported" "$(cat reported)"
   is "$name: printed" '' "$(cat out)"
@@ -220,6 +226,85 @@ status s "$label$some"00$up"00$phase_up"
 over 'it changes in a quiet time' 0 ''
 status s "$label$none"00$down"00$phase_down"
 
+# Another process: it has another number than the one that the first look saw, or another label.
+sleep 1000 &
+other=$(number $!)
+listeners+=($!)
+disown
+later=4000000065000001000000ff
+sleep 2.2
+status s "$label$some"00$up"00$phase_up"
+ended 'the same process: -u' 0 '' -u -t 0 s
+ended 'the same process: -r' 99 'wait: s: not restarted in time' -r -t 1 s
+begun 'another number' -r s
+status s "$label$some"01$up"00$phase_up"
+sleep 0.3
+is 'another number: the same process, paused' yes "$(kill -0 "$waiting" 2>/dev/null && echo yes)"
+status s "$later$none"00$up"00$resting"
+sleep 0.3
+is 'another number: none' yes "$(kill -0 "$waiting" 2>/dev/null && echo yes)"
+status s "$later$other"00$up"00$settling"
+sleep 0.3
+is 'another number: it settles' yes "$(kill -0 "$waiting" 2>/dev/null && echo yes)"
+status s "$later$other"00$up"00$phase_up"
+over 'another number' 0 ''
+status s "$label$some"00$up"00$phase_up"
+begun 'the number comes again' -t 100 -r s
+status s "$later$some"00$up"00$phase_up"
+over 'the number comes again' 0 ''
+status s "$label$some"00$up
+begun 'of 18 bytes' -r s
+status s "$later$other"00$up
+over 'of 18 bytes' 0 ''
+status s "$label$some"00$up"00$settling"
+begun 'it settles at the first look' -r s
+status s "$label$some"00$up"00$phase_up"
+sleep 0.3
+is 'it settles at the first look: the same process is up' yes "$(kill -0 "$waiting" 2>/dev/null && echo yes)"
+status s "$later$other"00$up"00$phase_up"
+over 'it settles at the first look' 0 ''
+for phase in $starting $resting; do
+  status s "$label$none"00$up"00$phase"
+  begun "no process in phase $phase at the first look" -r s
+  status s "$label$some"00$up"00$phase_up"
+  over "no process in phase $phase at the first look" 0 ''
+done
+status s "$label$none"00$down"00$phase_down"
+begun 'down at the first look' -r s
+status s "$label$some"00$up"00$phase_up"
+over 'down at the first look' 0 ''
+status s 00
+ended 'no record at the first look' 111 'wait: s: bad status record: Length' -r s
+rm s/supervise/status
+ended 'no status at the first look' 111 'wait: s: unable to read status' -r -t 100 s
+ended 'nobody is there at the first look' 102 'wait: nosuch: supervise not running
+wait: nosuch: No such file or directory' -r nosuch
+ended 'nobody is there at the first look, with a time' 99 'wait: nosuch: not restarted in time
+wait: nosuch: No such file or directory' -r -t 0 nosuch
+
+# A restart sends to services with a process alone. Here nobody listens at a socket `control`.
+status s "$label$some"00$up"00$phase_up"
+restarted 'not reached' 111 'restart: warning: unable to control s: not running' -t 100 s
+status s "$label$none"00$up"00$resting"
+restarted 'no process: nothing is sent' 99 'restart: s: not restarted in time' -t 0 s
+status s "$label$none"00$down"00$phase_down"
+restarted 'wanted down' 100 'restart: s: not wanted up' s
+status s "$label$some"00$down"00$phase_up"
+restarted 'wanted down, and still up' 100 'restart: s: not wanted up' -t 100 s
+status s "$label$some"00$once"00$phase_up"
+restarted 'wanted once' 100 'restart: s: not wanted up' -t 100 -- s
+status s "$label$some"00$up
+restarted 'of 18 bytes: not reached' 111 'restart: warning: unable to control s: not running' s
+status s 00
+restarted 'no record' 111 'restart: s: bad status record: Length' s
+rm s/supervise/status
+restarted 'no status' 111 'restart: s: unable to read status' s
+restarted 'nobody is there' 102 'restart: nosuch: supervise not running
+restart: nosuch: No such file or directory' nosuch
+restarted 'nobody is there, with a time' 99 'restart: nosuch: not restarted in time
+restart: nosuch: No such file or directory' -t 1 nosuch
+status s "$label$none"00$down"00$phase_down"
+
 # Several: each was found once, at whatever moment. One that was found is not looked at again.
 listen t
 status t "$label$some"00$up"00$phase_up"
@@ -307,6 +392,8 @@ until_true test -e full/supervise/ready
 status full "$label$some"00$up"00$phase_up"
 ended 'a full queue: -t 0' 99 'wait: full: not up in time' -t 0 full
 ended 'a full queue: -x' 99 'wait: full: still supervised' -x -t 0 full
+ended 'a full queue: -r' 111 'wait: full: unable to open supervise/ok: no answer' -r -t 100 full
+restarted 'a full queue: restart' 111 'restart: full: unable to open supervise/ok: no answer' -t 100 full
 begun 'a full queue' full
 : >full/accept
 over 'a full queue' 0 ''
@@ -316,11 +403,14 @@ if [ "$(id -u)" = 0 ] && command -v setpriv >/dev/null; then
   chmod 711 . t
   chmod 700 t/supervise
   cp "$program" "/tmp/wait.$$" && chmod 755 "/tmp/wait.$$"
-  for goal in -u -d -x; do
+  for goal in -u -d -x -r; do
     timeout 120 setpriv --reuid=65534 --regid=65534 --clear-groups "/tmp/wait.$$" wait $goal t >out 2>reported
     is "no permission: $goal: status" 111 "$?"
     is "no permission: $goal: reported" 'wait: t: unable to open supervise/ok: Permission denied' "$(cat reported)"
   done
+  timeout 120 setpriv --reuid=65534 --regid=65534 --clear-groups "/tmp/wait.$$" restart t >out 2>reported
+  is 'no permission: restart: status' 111 "$?"
+  is 'no permission: restart: reported' 'restart: t: unable to open supervise/ok: Permission denied' "$(cat reported)"
   rm -f "/tmp/wait.$$"
 fi
 
@@ -341,7 +431,7 @@ wait: : No such file or directory' ''
 
 # Words.
 usage='dtools: usage
-dtools wait [-u|-d|-x] [-t SECONDS] SERVICE..; u up, d down, x no longer supervised'
+dtools wait [-u|-d|-x|-r] [-t SECONDS] SERVICE..; u up, d down, x no longer supervised, r restarted'
 ended 'no words' 100 "$usage"
 ended 'no service' 100 "$usage" -u
 ended 'no service behind --' 100 "$usage" -t 1 --
@@ -358,6 +448,16 @@ ended 'an unknown letter' 100 "$usage" -y t
 ended 'letters together' 100 "$usage" -ud t
 ended 'an option behind a service is one' 102 'wait: -d: supervise not running
 wait: -d: No such file or directory' t -d
+usage='dtools: usage
+dtools restart [-t SECONDS] SERVICE..; sends TERM, and returns once another process is up'
+restarted 'restart: no words' 100 "$usage"
+restarted 'restart: no service' 100 "$usage" -t 1
+restarted 'restart: no service behind --' 100 "$usage" --
+restarted 'restart: words for seconds' 100 "$usage" -t t t
+restarted 'restart: an option of wait' 100 "$usage" -u t
+restarted 'restart: two times' 100 "$usage" -t 1 -t 1 t
+restarted 'restart: a name that is no text' 102 'restart: \xff: supervise not running
+restart: \xff: Invalid argument' $'\xff' 2>/dev/null
 # A name that is no text is that of no service. The shell drops the zero byte at its end.
 ended 'a name that is no text' 102 'wait: \xff: supervise not running
 wait: \xff: Invalid argument' $'\xff' 2>/dev/null
@@ -392,6 +492,48 @@ is 'both go down: svstat' 'services/web: down services/db: down' "$("$program" s
 ended 'both are down' 0 '' -t 0 -d services/web services/db
 ended 'both are up: not so' 99 'wait: services/web: not up in time
 wait: services/db: not up in time' -t 0 services/web services/db
+
+# Restarts: web ends at once at TERM, and slow once there is a file `go`. After `svc -t`, `wait -u` finds the old process.
+process() { "$program" svstat "$1" | sed -n 's/.*(pid \([0-9]*\)).*/\1/p'; }
+mkdir -p made/slow
+printf '#!/bin/sh\ntrap "until [ -e go ]; do sleep 0.1; done; exit 0" TERM\nwhile :; do sleep 0.1; done\n' >made/slow/run
+chmod 755 made/slow/run
+mv made/slow services
+ended 'slow comes up' 0 '' -t 100 services/slow
+"$program" svc -u services/web
+ended 'web comes up again' 0 '' -t 100 services/web
+slow=$(process services/slow) web=$(process services/web)
+"$program" svc -t services/slow
+ended 'a TERM, and then -u' 0 '' -u -t 100 services/slow
+is 'a TERM, and then -u: the old process' "$slow" "$(process services/slow)"
+begun 'a TERM, and then -r' -r services/slow
+: >services/slow/go
+over 'a TERM, and then -r' 0 ''
+is 'a TERM, and then -r: another process' no "$([ "$(process services/slow)" != "$slow" ] && echo no)"
+slow=$(process services/slow)
+rm services/slow/go
+restarted 'slow, in too short a time' 99 'restart: services/slow: not restarted in time' -t 1 services/slow
+is 'slow, in too short a time: the old process' "$slow" "$(process services/slow)"
+begun 'slow, in too short a time: later' -r services/slow
+: >services/slow/go
+over 'slow, in too short a time: later' 0 ''
+slow=$(process services/slow)
+restarted 'a service that is down is the last one' 100 'restart: services/db: not wanted up' services/web services/slow services/db
+restarted 'a service that is not there is the last one' 102 'restart: services/nosuch: supervise not running
+restart: services/nosuch: No such file or directory' services/web services/slow services/nosuch
+sleep 4
+is 'nothing was sent' "$web $slow" "$(process services/web) $(process services/slow)"
+restarted 'both' 0 '' services/web services/slow
+is 'both: other processes' 'no no' "$([ "$(process services/web)" != "$web" ] && echo no) $([ "$(process services/slow)" != "$slow" ] && echo no)"
+slow=$(process services/slow)
+restarted 'one of two' 0 '' -t 100 services/web
+is 'one of two: the other one runs on' "$slow" "$(process services/slow)"
+begun 'it is restarted by svc' -r services/web
+"$program" svc -t services/web
+over 'it is restarted by svc' 0 ''
+ended 'nobody restarts it' 99 'wait: services/web: not restarted in time' -r -t 3 services/web
+"$program" svc -d services/web services/slow
+ended 'web and slow go down again' 0 '' -d -t 100 services/web services/slow
 
 # A service that ends at once, or within two seconds, and is started again and again, is never up: svwait -u returned 0 for
 # it, since for a moment before each death is taken the record says up. Each is looked at for six seconds.

@@ -12,6 +12,7 @@ commands = (
     (codes "svstat", command.Svstat) ∷
     (codes "svok", command.Svok) ∷
     (codes "wait", command.Wait) ∷
+    (codes "restart", command.Restart) ∷
     (codes "multilog", command.Multilog) ∷
     (codes "tai64n", command.Tai64n) ∷
     (codes "tai64nlocal", command.Tai64nlocal) ∷

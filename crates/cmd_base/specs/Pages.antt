@@ -10,7 +10,10 @@ page command.Svc =
 page command.Svstat = codes "dtools svstat [--json | --metrics] SERVICE.." ++ 10 ∷ []
 page command.Svok = codes "dtools svok SERVICE" ++ 10 ∷ []
 page command.Wait =
-    codes "dtools wait [-u|-d|-x] [-t SECONDS] SERVICE..; u up, d down, x no longer supervised" ++ 10 ∷ []
+    codes "dtools wait [-u|-d|-x|-r] [-t SECONDS] SERVICE..; u up, d down, x no longer supervised, r restarted"
+    ++ 10 ∷ []
+page command.Restart =
+    codes "dtools restart [-t SECONDS] SERVICE..; sends TERM, and returns once another process is up" ++ 10 ∷ []
 page command.Multilog =
     codes "dtools multilog ACTION..: t, -PATTERN, +PATTERN, e, =FILE, sSIZE, nNUMBER, folders" ++ 10 ∷ []
 page command.Tai64n = codes "dtools tai64n" ++ 10 ∷ []

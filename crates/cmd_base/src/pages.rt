@@ -18,7 +18,10 @@ pub fn page_of(command: Command) -> &'static [u8]
         Command::Svstat => b"dtools svstat [--json | --metrics] SERVICE..\n",
         Command::Svok => b"dtools svok SERVICE\n",
         Command::Wait => {
-            b"dtools wait [-u|-d|-x] [-t SECONDS] SERVICE..; u up, d down, x no longer supervised\n"
+            b"dtools wait [-u|-d|-x|-r] [-t SECONDS] SERVICE..; u up, d down, x no longer supervised, r restarted\n"
+        }
+        Command::Restart => {
+            b"dtools restart [-t SECONDS] SERVICE..; sends TERM, and returns once another process is up\n"
         }
         Command::Multilog => {
             b"dtools multilog ACTION..: t, -PATTERN, +PATTERN, e, =FILE, sSIZE, nNUMBER, folders\n"

@@ -15,7 +15,8 @@ overview = printed (
     codes "  svc            controls services" ∷
     codes "  svstat         shows the state of services" ∷
     codes "  svok           says whether a service is supervised" ∷
-    codes "  wait           returns once services are up, or down, or no longer supervised" ∷
+    codes "  wait           returns once services are up, down, restarted, or no longer supervised" ∷
+    codes "  restart        ends the processes of services, and returns once others are up" ∷
     codes "  multilog       logs lines into folders" ∷
     codes "  tai64n         puts a label before each line" ∷
     codes "  tai64nlocal    shows labels as local times" ∷
@@ -47,6 +48,7 @@ help_of command = page command
 abbrev pub tools : List (List ℕ × List ℕ)
 tools = (
     (codes "svwait", page command.Wait) ∷
+    (codes "svrestart", page command.Restart) ∷
     (codes "setuidgid", codes "setuidgid ACCOUNT PROGRAM WORDS.." ++ 10 ∷ []) ∷
     (codes "envuidgid", codes "envuidgid ACCOUNT PROGRAM WORDS.." ++ 10 ∷ []) ∷
     (codes "softlimit", codes "softlimit [-acdflmoprst LIMIT].. PROGRAM WORDS.." ++ 10 ∷ []) ∷

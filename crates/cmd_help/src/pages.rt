@@ -14,7 +14,8 @@ pub fn overview() -> &'static [u8]
   svc            controls services
   svstat         shows the state of services
   svok           says whether a service is supervised
-  wait           returns once services are up, or down, or no longer supervised
+  wait           returns once services are up, down, restarted, or no longer supervised
+  restart        ends the processes of services, and returns once others are up
   multilog       logs lines into folders
   tai64n         puts a label before each line
   tai64nlocal    shows labels as local times
@@ -67,6 +68,7 @@ pub fn tool_page(name: &str) -> Option<&'static [u8]>
 {
     match name {
         "svwait" => Some(page_of(Command::Wait)),
+        "svrestart" => Some(page_of(Command::Restart)),
         "setuidgid" => Some(b"setuidgid ACCOUNT PROGRAM WORDS..\n"),
         "envuidgid" => Some(b"envuidgid ACCOUNT PROGRAM WORDS..\n"),
         "softlimit" => Some(b"softlimit [-acdflmoprst LIMIT].. PROGRAM WORDS..\n"),

@@ -4,4 +4,4 @@
 pub(crate) const KIT: &str = "rattle-kit-13f logic dac8208d650f15bf";
 
 /// The sum of its sources, as packaging/source-sum says it.
-pub(crate) const SOURCE: &str = "57800fcaabb6ca1e0de50cee01910a37fb8d0d7e5c09f574da114eee1de6384d";
+pub(crate) const SOURCE: &str = "518f4eac4d8ba6317fc1cd9a5f7881b1ce6fc773b416631a05918962286059a9";

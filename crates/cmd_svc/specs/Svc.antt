@@ -38,9 +38,13 @@ reason unreached.NotRunning = codes ": not running" ++ 10 ∷ []
 reason unreached.Denied = codes ": Permission denied" ++ 10 ∷ []
 reason unreached.Unanswered = codes ": no answer" ++ 10 ∷ []
 
--- what is reported about a service that can't be reached
-abbrev pub unreached_report : (folder : List ℕ) (why : Unreached) → List ℕ
-unreached_report folder why = codes "svc: warning: unable to control " ++ (folder ++ reason why)
+-- the warning about a service that can't be reached, up to its folder
+abbrev pub svc_warning : List ℕ
+svc_warning = codes "svc: warning: unable to control "
+
+-- what is reported about a service that can't be reached, with the warning of the command that sends
+abbrev pub unreached_report : (warning folder : List ℕ) (why : Unreached) → List ℕ
+unreached_report warning folder why = warning ++ (folder ++ reason why)
 
 -- what is reported about a letter that svc does not know
 abbrev pub letter_report : (letter : ℕ) → List ℕ
@@ -53,15 +57,15 @@ memory_report = codes "svc: OutOfMemory" ++ 10 ∷ []
 -- Services
 
 -- If the bytes arrived, nothing is reported. If they did not, that is reported, with the reason.
-abbrev pub ReportsFault : (fault : Option Unreached) (folder : List ℕ) (old new : Device) → Type 0
-ReportsFault None folder old new = new ≡ old
-ReportsFault (Some why) folder old new = Reports old new (unreached_report folder why)
+abbrev pub ReportsFault : (warning : List ℕ) (fault : Option Unreached) (folder : List ℕ) (old new : Device) → Type 0
+ReportsFault warning None folder old new = new ≡ old
+ReportsFault warning (Some why) folder old new = Reports old new (unreached_report warning folder why)
 
 -- These bytes are sent to the service in a folder, once. If they did not arrive, that is reported once, and remembered.
-pub record Serves (bytes folder : List ℕ) (old new : Sending) : Type 0 where
+pub record Serves (warning bytes folder : List ℕ) (old new : Sending) : Type 0 where
   pub fault : Option Unreached
   pub sent : Extended old.effects.calls new.effects.calls (Sent folder bytes fault ∷ [])
-  pub reported : ReportsFault fault folder old.effects.faults new.effects.faults
+  pub reported : ReportsFault warning fault folder old.effects.faults new.effects.faults
   pub missed : new.missed ≡ (is_some fault || old.missed)
 
 -- Ends
@@ -72,7 +76,7 @@ pub record ServesWords (missed_status : ℕ) (words : List (List ℕ)) (status :
   pub missed : Bool
   pub served : Effects
   pub status_is : status ≡ (if missed then missed_status else 0)
-  pub serves : InTurn (Serves (order_bytes words)) (service_words words)
+  pub serves : InTurn (Serves svc_warning (order_bytes words)) (service_words words)
       (sending old.calls old.faults false) (sending served.calls served.faults missed)
   pub told : TellsEach (codes "svc: ") (service_words words)
       (telling served.calls served.faults) (telling new.calls new.faults)

@@ -28,7 +28,7 @@ pub use missing::tell_missing;
 pub use observer::Observer;
 pub use order::{Order, OrderBytes, SvcFault};
 pub use services::{Services, Unreached};
-pub use svc::run_svc;
+pub use svc::{run_svc, serve};
 pub use svok::run_svok;
 pub use svstat::{SvstatFault, report_svstat, run_svstat, run_svstat_as};
 pub use system::SystemServices;

@@ -4,7 +4,7 @@ ghost use Rattle.cmd_svc.specs.Words.{service_words, texts};
 ghost use Rattle.tai_status.specs.Counted.{Reports};
 ghost use Rattle.cmd_svc.specs.Turns.{InTurn};
 ghost use Rattle.cmd_svc.specs.Svc.{effects, letter_report, missed_status, order_words, reason, sending};
-ghost use Rattle.cmd_svc.specs.Svc.{OrderEnds, Serves, SvcEnds};
+ghost use Rattle.cmd_svc.specs.Svc.{OrderEnds, Serves, SvcEnds, svc_warning};
 
 use crate::missing::tell_missing;
 use crate::order::SvcFault;
@@ -14,6 +14,9 @@ use cmd_base::{DONE, REFUSED, TROUBLE, report, report_parts};
 use std::alloc::Allocator;
 use std::io::Write;
 use tai_status::{Name, Output};
+
+/// The warning about a service that can't be reached, up to its folder.
+const WARNING: &[u8] = b"svc: warning: unable to control ";
 
 /// Reports that a letter is unknown, and returns the exit status for that.
 fn report_letter<E: Write>(letter: u8, faults: &mut Output<E>) -> u8
@@ -36,28 +39,23 @@ fn reason(why: Unreached) -> &'static [u8]
     }
 }
 
-/// Sends bytes to a service. If it can't be reached, reports that, and why. Returns whether some service was not
-/// reached, this one or one before it.
-fn serve<S: Services, E: Write>(
+/// Sends bytes to a service. If it can't be reached, reports that, and why, after the warning of the command that sends.
+/// Returns whether some service was not reached, this one or one before it.
+pub fn serve<S: Services, E: Write>(
     services: &mut S,
+    warning: &[u8],
     folder: &str,
     bytes: &[u8],
     missed: bool,
     faults: &mut Output<E>,
 ) -> bool
-    ensures { Serves bytes.now folder.now (sending (S.calls services.old) faults.old missed)
+    ensures { Serves warning.now bytes.now folder.now (sending (S.calls services.old) faults.old missed)
         (sending (S.calls services.new) faults.new result) }
 {
     match services.send(folder, bytes) {
         Ok(()) => missed,
         Err(why) => {
-            report_parts(
-                faults,
-                b"svc: warning: unable to control ",
-                folder.as_bytes(),
-                reason(why),
-                DONE,
-            );
+            report_parts(faults, warning, folder.as_bytes(), reason(why), DONE);
             true
         }
     }
@@ -71,12 +69,12 @@ fn serve_each<S: Services, A: Allocator, E: Write>(
     bytes: &[u8],
     faults: &mut Output<E>,
 ) -> bool
-    ensures { InTurn (Serves bytes.now) names.now (sending (S.calls services.old) faults.old false)
+    ensures { InTurn (Serves svc_warning bytes.now) names.now (sending (S.calls services.old) faults.old false)
         (sending (S.calls services.new) faults.new result) }
 {
     let mut missed = false;
     for name in names {
-        missed = serve(services, name.as_str(), bytes, missed, faults);
+        missed = serve(services, WARNING, name.as_str(), bytes, missed, faults);
     }
     missed
 }

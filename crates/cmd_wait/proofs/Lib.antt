@@ -2,3 +2,4 @@ pub mod Looking
 pub mod Lasting
 pub mod Found
 pub mod Waiting
+pub mod Sending

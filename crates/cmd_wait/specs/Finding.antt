@@ -1,10 +1,11 @@
 -- What a look at a service finds, from the results of its calls.
-use Rattle.std.specs.Prelude.{◌≡◌, ◌≤◌, ℕ, nat_le, Bool, true, false, not, ◌&&◌, if◌then◌else◌, List, [], ◌∷◌, ◌++◌}
+use Rattle.std.specs.Prelude.{◌≡◌, ◌≤◌, ℕ, nat_le, ◌==◌, map, Bool, true, false, not, ◌&&◌, if◌then◌else◌, List, [], ◌∷◌, ◌++◌}
 use Rattle.std.specs.Prelude.{Option, Some, None}
 use Rattle.std.specs.Prelude.{Result, Ok}
 use Rattle.std.specs.Prelude.{Err}
 use Rattle.tai_status.specs.Extended.{Extended}
 use Rattle.tai_status.specs.Loading.{loaded_from, status_in}
+use Rattle.tai_status.specs.Record.{Status}
 use Rattle.tai_status.specs.declared.loading.Loaded.{Loaded}
 use Rattle.tai_status.specs.declared.loading.Loaded.TheVariants.{Old, New}
 use Rattle.tai_status.specs.declared.phase.Phase.{Phase}
@@ -15,6 +16,8 @@ use Rattle.cmd_svc.specs.Line.{is_running}
 use Rattle.cmd_svc.specs.declared.services.Unreached.{Unreached}
 use Rattle.cmd_svc.specs.declared.services.Unreached.TheVariants.{NotRunning, Denied, Unanswered}
 use Rattle.cmd_wait.specs.declared.finding.Goal.{Goal}
+use Rattle.cmd_wait.specs.declared.finding.Mark.{Mark}
+use Rattle.cmd_wait.specs.declared.finding.Entry.{Entry}
 use Rattle.cmd_wait.specs.declared.finding.WaitState.{WaitState}
 use Rattle.cmd_wait.specs.declared.finding.WaitState.TheVariants as state
 use Rattle.cmd_wait.specs.declared.finding.Finding.{Finding}
@@ -46,9 +49,44 @@ abbrev pub has_lasted : Option ℕ → Bool
 has_lasted None = false
 has_lasted (Some age) = nat_le 200 age
 
+-- Services that are waited for
+
+-- A service that is waited for: its folder, and its mark, which is the process that the first look saw there, if there
+-- was one.
+pub record Awaited : Type 0 where
+  pub folder : List ℕ
+  pub mark : Option Mark
+
+abbrev pub service : (folder : List ℕ) (mark : Option Mark) → Awaited
+service folder mark = record { folder = folder; mark = mark }
+
+-- the services of entries; and those in folders, without a mark
+abbrev pub awaited : List Entry → List Awaited
+awaited entries = map (λ entry. service entry.folder.now entry.mark) entries
+
+abbrev pub unmarked : List (List ℕ) → List Awaited
+unmarked folders = map (λ folder. service folder None) folders
+
+-- the folders of services; and of entries
+abbrev pub folders : List Awaited → List (List ℕ)
+folders services = map (λ service. service.folder) services
+
+abbrev pub entry_folders : List Entry → List (List ℕ)
+entry_folders entries = map (λ entry. entry.folder.now) entries
+
+-- Whether the process of a record is not the one of a mark: it has another number, or it began at another time. If
+-- there is no mark, this is so for each process.
+abbrev pub is_another : Option Mark → Status → Bool
+is_another None status = true
+is_another (Some mark) status =
+    not ((mark.pid == status.pid) && (mark.label.sec == status.label.sec) && (mark.label.nano == status.label.nano))
+
+-- What a look finds
+
 -- the process whose age is asked for, if the service should be up and its record says that it is
 abbrev pub process_asked : WaitState → Result Loaded RecordFault → Option ℕ
 process_asked state.Up (Ok loaded) = if is_up loaded then Some (status_in loaded).pid else None
+process_asked state.Another (Ok loaded) = if is_up loaded then Some (status_in loaded).pid else None
 process_asked other read = None
 
 -- The results of the calls of a look. The service did not respond, for this reason; or its status could not be read. Or
@@ -95,26 +133,31 @@ abbrev pub unread_finding : WaitState → Finding
 unread_finding state.Unsupervised = Waiting
 unread_finding state.Up = Failed fault.Unread
 unread_finding state.Down = Failed fault.Unread
+unread_finding state.Another = Failed fault.Unread
 
 -- A service is up if its record says so and its process has lived for two seconds. A service whose process ends sooner,
--- and is restarted each time, is therefore never up.
-abbrev pub record_finding : WaitState → Result Loaded RecordFault → (age : Option ℕ) → Finding
-record_finding state.Unsupervised read age = Waiting
-record_finding state.Up (Ok loaded) age = reached_if (is_up loaded && has_lasted age)
-record_finding state.Up (Err cause) age = Failed (fault.Bad cause)
-record_finding state.Down (Ok loaded) age = reached_if (is_down loaded)
-record_finding state.Down (Err cause) age = Failed (fault.Bad cause)
+-- and is restarted each time, is therefore never up. A service is restarted if it is up so, and its process is not the
+-- one of its mark.
+abbrev pub record_finding : WaitState → (mark : Option Mark) → Result Loaded RecordFault → (age : Option ℕ) → Finding
+record_finding state.Unsupervised mark read age = Waiting
+record_finding state.Up mark (Ok loaded) age = reached_if (is_up loaded && has_lasted age)
+record_finding state.Up mark (Err cause) age = Failed (fault.Bad cause)
+record_finding state.Down mark (Ok loaded) age = reached_if (is_down loaded)
+record_finding state.Down mark (Err cause) age = Failed (fault.Bad cause)
+record_finding state.Another mark (Ok loaded) age =
+    reached_if (is_up loaded && has_lasted age && is_another mark (status_in loaded))
+record_finding state.Another mark (Err cause) age = Failed (fault.Bad cause)
 
-abbrev pub finding_of : Goal → Sighting → Finding
-finding_of goal (Absent why) = absent_finding goal why
-finding_of goal Unread = unread_finding goal.state
-finding_of goal (Shown bytes age) = record_finding goal.state (loaded_from bytes) age
+abbrev pub finding_of : Goal → (mark : Option Mark) → Sighting → Finding
+finding_of goal mark (Absent why) = absent_finding goal why
+finding_of goal mark Unread = unread_finding goal.state
+finding_of goal mark (Shown bytes age) = record_finding goal.state mark (loaded_from bytes) age
 
--- The service in a folder was looked at, once, and this was found.
-pub record Finds (goal : Goal) (folder : List ℕ) (finding : Finding) (old new : Option (List Call)) : Type 0 where
+-- A service was looked at, once, and this was found.
+pub record Finds (goal : Goal) (service : Awaited) (finding : Finding) (old new : Option (List Call)) : Type 0 where
   pub sighting : Sighting
-  pub is : finding ≡ finding_of goal sighting
-  pub calls : Extended old new (calls_of_look goal folder sighting)
+  pub is : finding ≡ finding_of goal service.mark sighting
+  pub calls : Extended old new (calls_of_look goal service.folder sighting)
 
 -- What a look saw of a service that is up: a record that says so, and that the process of that record lived then, and
 -- had lived for two seconds.
@@ -131,5 +174,18 @@ pub record SeesUp (sighting : Sighting) : Type 0 where
 -- Every look that finds a service up saw that.
 abbrev pub UpLasts : Type 0
 UpLasts =
-    (goal : Goal) (sighting : Sighting) → goal.state ≡ state.Up → finding_of goal sighting ≡ Reached
+    (goal : Goal) (mark : Option Mark) (sighting : Sighting) → goal.state ≡ state.Up
+    → finding_of goal mark sighting ≡ Reached
     → SeesUp sighting
+
+-- What a look saw of a service that was restarted: it is up so, and its process is not the one of the mark.
+pub record SeesAnother (mark : Option Mark) (sighting : Sighting) : Type 0 where
+  pub up : SeesUp sighting
+  pub another : is_another mark (status_in up.loaded) ≡ true
+
+-- Every look that finds a service restarted saw that.
+abbrev pub AnotherIsSeen : Type 0
+AnotherIsSeen =
+    (goal : Goal) (mark : Option Mark) (sighting : Sighting) → goal.state ≡ state.Another
+    → finding_of goal mark sighting ≡ Reached
+    → SeesAnother mark sighting

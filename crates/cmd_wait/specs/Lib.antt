@@ -4,3 +4,5 @@ pub mod Finding
 pub mod Watching
 pub mod Rounds
 pub mod Ends
+pub mod Marking
+pub mod Restarting

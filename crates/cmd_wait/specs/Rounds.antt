@@ -3,28 +3,29 @@ use Rattle.std.specs.Prelude.{◌≡◌, ◌≢◌, ◌⊎◌, ⊤, ℕ, List, [
 use Rattle.tai_status.specs.Extended.{Extended}
 use Rattle.cmd_svc.specs.Calls.{Call}
 use Rattle.cmd_wait.specs.Steps.{Read, Sight, IsOver}
-use Rattle.cmd_wait.specs.Finding.{Sighting, calls_of_look, finding_of, Finds}
+use Rattle.cmd_wait.specs.Finding.{Sighting, Awaited, service, calls_of_look, finding_of, folders, Finds}
 use Rattle.cmd_wait.specs.Watching.{Watched, watched, Pauses}
 use Rattle.cmd_wait.specs.Words.{Order}
 use Rattle.cmd_wait.specs.declared.finding.Goal.{Goal}
 use Rattle.cmd_wait.specs.declared.finding.Finding.{Finding}
 use Rattle.cmd_wait.specs.declared.finding.Finding.TheVariants.{Reached, Waiting, Failed}
 use Rattle.cmd_wait.specs.declared.finding.WaitFault.{WaitFault}
+use Rattle.cmd_wait.specs.declared.finding.Mark.{Mark}
 use Rattle.cmd_wait.specs.declared.rounds.Failure.{Failure}
 
 -- Looks at services, one after the other
 
--- A look at the service in a folder.
+-- A look at a service.
 pub record Look : Type 0 where
-  pub folder : List ℕ
+  pub service : Awaited
   pub sighting : Sighting
 
 -- the services that were looked at
-abbrev pub folders : List Look → List (List ℕ)
-folders looks = map (λ look. look.folder) looks
+abbrev pub seen : List Look → List Awaited
+seen looks = map (λ look. look.service) looks
 
 abbrev pub calls_of : Goal → List Look → List Call
-calls_of goal looks = flat_map (λ look. calls_of_look goal look.folder look.sighting) looks
+calls_of goal looks = flat_map (λ look. calls_of_look goal look.service.folder look.sighting) looks
 
 -- This finding is not a failure.
 abbrev pub GoesOn : Finding → Type 0
@@ -33,77 +34,79 @@ GoesOn Waiting = ⊤
 GoesOn (Failed fault) = ⊥
 
 -- the service, if it was not found as it should be
-abbrev pub left_at : (folder : List ℕ) → Finding → List (List ℕ)
-left_at folder Reached = []
-left_at folder Waiting = folder ∷ []
-left_at folder (Failed fault) = folder ∷ []
+abbrev pub left_at : (service : Awaited) → Finding → List Awaited
+left_at service Reached = []
+left_at service Waiting = service ∷ []
+left_at service (Failed fault) = service ∷ []
 
 -- the services that were not found as they should be, in their order
-abbrev pub left_by : Goal → List Look → List (List ℕ)
-left_by goal looks = flat_map (λ look. left_at look.folder (finding_of goal look.sighting)) looks
+abbrev pub left_by : Goal → List Look → List Awaited
+left_by goal looks =
+    flat_map (λ look. left_at look.service (finding_of goal look.service.mark look.sighting)) looks
 
 -- The first of these services were looked at, each once. None of them failed, and these are left. The services `after`
 -- were not looked at.
-pub record LooksAt (goal : Goal) (services left after : List (List ℕ)) (old new : Option (List Call)) : Type 0 where
+pub record LooksAt (goal : Goal) (services left after : List Awaited) (old new : Option (List Call)) : Type 0 where
   pub looks : List Look
-  pub split : services ≡ folders looks ++ after
-  pub goes_on : All (λ look. GoesOn (finding_of goal look.sighting)) looks
+  pub split : services ≡ seen looks ++ after
+  pub goes_on : All (λ look. GoesOn (finding_of goal look.service.mark look.sighting)) looks
   pub left_is : left ≡ left_by goal looks
   pub calls : Extended old new (calls_of goal looks)
 
 -- After looks at the services before it, the look at the service in a folder found that it can't be waited for.
-pub record FailsAt (goal : Goal) (services : List (List ℕ)) (folder : List ℕ) (fault : WaitFault)
+pub record FailsAt (goal : Goal) (services : List Awaited) (folder : List ℕ) (fault : WaitFault)
     (old new : Option (List Call)) : Type 0 where
-  pub left : List (List ℕ)
-  pub after : List (List ℕ)
+  pub mark : Option Mark
+  pub left : List Awaited
+  pub after : List Awaited
   pub middle : Option (List Call)
-  pub looked : LooksAt goal services left (folder ∷ after) old middle
-  pub fails : Finds goal folder (Failed fault) middle new
+  pub looked : LooksAt goal services left (service folder mark ∷ after) old middle
+  pub fails : Finds goal (service folder mark) (Failed fault) middle new
 
 -- A look failed this way.
-abbrev pub FailsWith : (failure : Failure) (goal : Goal) (services : List (List ℕ)) (old new : Option (List Call))
+abbrev pub FailsWith : (failure : Failure) (goal : Goal) (services : List Awaited) (old new : Option (List Call))
     → Type 0
 FailsWith failure goal services old new = FailsAt goal services failure.folder.now failure.fault old new
 
 -- Rounds, one after the other
 
 -- A round: the clock is read, and then each of these services is looked at, once. These are left.
-pub record TakesRound (order : Order) (now : ℕ) (services left : List (List ℕ)) (old new : Sight) : Type 0 where
+pub record TakesRound (order : Order) (now : ℕ) (services left : List Awaited) (old new : Sight) : Type 0 where
   pub read : Extended old.steps new.steps (Read now ∷ [])
   pub looked : LooksAt order.goal services left [] old.calls new.calls
 
 -- A round that is not the last: services are left, the time was not over when it began, and a pause follows.
-pub record Repeats (order : Order) (begin : ℕ) (services left : List (List ℕ)) (old new : Watched) : Type 0 where
+pub record Repeats (order : Order) (begin : ℕ) (services left : List Awaited) (old new : Watched) : Type 0 where
   pub now : ℕ
   pub middle : Sight
   pub takes : TakesRound order now services left old.sight middle
   pub some : left ≢ []
   pub in_time : IsOver order.limit begin now → ⊥
-  pub pauses : Pauses order.limit begin left (watched old.watch middle) new
+  pub pauses : Pauses order.limit begin (folders left) (watched old.watch middle) new
 
 -- Rounds that are not the last were made, beginning with these services. Each went over those that the one before it
 -- left.
-pub data Waits (order : Order) (begin : ℕ) (services : List (List ℕ)) (old : Watched)
-    : (left : List (List ℕ)) → (now : Watched) → Type 0 where
+pub data Waits (order : Order) (begin : ℕ) (services : List Awaited) (old : Watched)
+    : (left : List Awaited) → (now : Watched) → Type 0 where
   none : Waits order begin services old services old
-  more : {left after : List (List ℕ)} {now new : Watched} → Waits order begin services old left now
+  more : {left after : List Awaited} {now new : Watched} → Waits order begin services old left now
       → Repeats order begin left after now new → Waits order begin services old after new
 
 -- What they found
 
 -- the looks of these rounds
-abbrev pub looks_of : {order : Order} {begin : ℕ} {services : List (List ℕ)} {old : Watched}
-    {left : List (List ℕ)} {now : Watched} → Waits order begin services old left now → List Look
+abbrev pub looks_of : {order : Order} {begin : ℕ} {services : List Awaited} {old : Watched}
+    {left : List Awaited} {now : Watched} → Waits order begin services old left now → List Look
 looks_of none = []
 looks_of (more waits round) = looks_of waits ++ round.takes.looked.looks
 
--- The service in a folder is one of these.
-abbrev pub IsAmong : (folder : List ℕ) (services : List (List ℕ)) → Type 0
-IsAmong folder [] = ⊥
-IsAmong folder (service ∷ services) = (service ≡ folder) ⊎ IsAmong folder services
+-- A service is one of these.
+abbrev pub IsAmong : (one : Awaited) (services : List Awaited) → Type 0
+IsAmong one [] = ⊥
+IsAmong one (other ∷ services) = (other ≡ one) ⊎ IsAmong one services
 
 -- One of these looks found it as it should be.
-abbrev pub IsFound : (goal : Goal) (folder : List ℕ) (looks : List Look) → Type 0
-IsFound goal folder [] = ⊥
-IsFound goal folder (look ∷ looks) =
-    ((look.folder ≡ folder) × (finding_of goal look.sighting ≡ Reached)) ⊎ IsFound goal folder looks
+abbrev pub IsFound : (goal : Goal) (one : Awaited) (looks : List Look) → Type 0
+IsFound goal one [] = ⊥
+IsFound goal one (look ∷ looks) =
+    ((look.service ≡ one) × (finding_of goal one.mark look.sighting ≡ Reached)) ⊎ IsFound goal one looks

@@ -1,11 +1,11 @@
 -- What a wait does between two rounds: it rests, and checks whether something changed.
 use Rattle.std.specs.Prelude.{◌≡◌, ◌↔◌, ◌⊎◌, ℕ, ◌+◌, ◌-◌, ◌<◌, ◌==◌, nat_lt, max, List, [], ◌∷◌, Option, Some, None}
 use Rattle.std.specs.Prelude.{Bool, true, false, not, ◌||◌, if◌then◌else◌, IsTrue}
-use Rattle.std.specs.Borrow.{Bor}
 use Rattle.tai_status.specs.Extended.{Extended}
 use Rattle.cmd_svc.specs.Calls.{Call, SoughtChange}
 use Rattle.cmd_svc.specs.Turns.{InTurn}
-use Rattle.cmd_svc.specs.Words.{texts}
+use Rattle.cmd_wait.specs.Finding.{entry_folders}
+use Rattle.cmd_wait.specs.declared.finding.Entry.{Entry}
 use Rattle.cmd_wait.specs.Steps.{Step, Read, Rested, Sight, sight, IsOver}
 use Rattle.cmd_wait.specs.declared.watch.Watch.{Watch}
 use Rattle.cmd_wait.specs.declared.watch.TheConstants.{MOST_RESTS}
@@ -82,11 +82,11 @@ pub record TakesRest (limit : Option ℕ) (begin : ℕ) (left : List (List ℕ))
   pub noted : new.watch ≡ next_watch old.watch newest
   pub is : IsTrue due ↔ (IsTrue (is_due old.watch newest) ⊎ IsOver limit begin now)
 
--- The same, for the words of the services that are left, and for each value before and after.
-abbrev pub Rests : (limit : Option ℕ) (begin : ℕ) (left : List (Bor (List ℕ))) (due : Bool) (watch watches : Watch)
+-- The same, for the entries of the services that are left, and for each value before and after.
+abbrev pub Rests : (limit : Option ℕ) (begin : ℕ) (left : List Entry) (due : Bool) (watch watches : Watch)
     (calls asked : Option (List Call)) (steps taken : Option (List Step)) → Type 0
 Rests limit begin left due watch watches calls asked steps taken =
-    TakesRest limit begin (texts left) due (watched watch (sight calls steps)) (watched watches (sight asked taken))
+    TakesRest limit begin (entry_folders left) due (watched watch (sight calls steps)) (watched watches (sight asked taken))
 
 -- This many rests, and no round was due after any of them.
 pub data RestsOn (limit : Option ℕ) (begin : ℕ) (left : List (List ℕ)) (old : Watched)
@@ -108,8 +108,8 @@ pub record EndsDue (limit : Option ℕ) (begin : ℕ) (left : List (List ℕ)) (
 abbrev pub Pauses : (limit : Option ℕ) (begin : ℕ) (left : List (List ℕ)) (old new : Watched) → Type 0
 Pauses limit begin left old new = EndsDue limit begin left old new ⊎ RestsOn limit begin left old MOST_RESTS new
 
--- The same, for the words of the services that are left, and for each value before and after.
-abbrev pub PausesFor : (limit : Option ℕ) (begin : ℕ) (left : List (Bor (List ℕ))) (watch watches : Watch)
+-- The same, for the entries of the services that are left, and for each value before and after.
+abbrev pub PausesFor : (limit : Option ℕ) (begin : ℕ) (left : List Entry) (watch watches : Watch)
     (calls asked : Option (List Call)) (steps taken : Option (List Step)) → Type 0
 PausesFor limit begin left watch watches calls asked steps taken =
-    Pauses limit begin (texts left) (watched watch (sight calls steps)) (watched watches (sight asked taken))
+    Pauses limit begin (entry_folders left) (watched watch (sight calls steps)) (watched watches (sight asked taken))

@@ -1,4 +1,4 @@
--- What the words of `wait` ask for: `wait [-u|-d|-x] [-t SECONDS] SERVICE..`, with the options in either order, and
+-- What the words of `wait` ask for: `wait [-u|-d|-x|-r] [-t SECONDS] SERVICE..`, with the options in either order, and
 -- with or without a `--` after them. Words are lists of bytes.
 use Rattle.std.specs.Prelude.{◌≡◌, ◌≢◌, ℕ, ◌<◌, ◌^◌, if◌then◌else◌, List, [], ◌∷◌, codes, bytes_eq, decimal, Option}
 use Rattle.std.specs.Prelude.{Some}
@@ -6,7 +6,7 @@ use Rattle.std.specs.Prelude.{None, is_some, unwrap_or, Bool, true, false}
 use Rattle.cmd_svc.specs.Words.{is_end, is_option}
 use Rattle.cmd_wait.specs.declared.finding.Goal.{Goal}
 use Rattle.cmd_wait.specs.declared.finding.WaitState.{WaitState}
-use Rattle.cmd_wait.specs.declared.finding.WaitState.TheVariants.{Up, Down, Unsupervised}
+use Rattle.cmd_wait.specs.declared.finding.WaitState.TheVariants.{Up, Down, Unsupervised, Another}
 
 -- What to wait for, for how many seconds at most, and for which services.
 pub record Order : Type 0 where
@@ -26,6 +26,7 @@ state_of word =
     if bytes_eq word (codes "-u") then Some Up
     else if bytes_eq word (codes "-d") then Some Down
     else if bytes_eq word (codes "-x") then Some Unsupervised
+    else if bytes_eq word (codes "-r") then Some Another
     else None
 
 -- the state that words begin with, and the words after it
@@ -79,3 +80,16 @@ pub record Asks (words : List (List ℕ)) (order : Order) : Type 0 where
 -- The words ask for nothing.
 abbrev pub AskNothing : (words : List (List ℕ)) → Type 0
 AskNothing words = (order : Order) → Asks words order → ⊥
+
+-- What the words of `restart` ask for: `restart [-t SECONDS] SERVICE..`
+
+-- The words ask for this: that each service is up with another process. They name at least one service.
+pub record AsksRestart (words : List (List ℕ)) (order : Order) : Type 0 where
+  pub goal_is : order.goal ≡ goal Another (is_some order.limit)
+  pub limit_is : FirstLimit words order.limit
+  pub services_are : order.services ≡ services_of (behind_limit words)
+  pub some : order.services ≢ []
+
+-- The words ask for no restart.
+abbrev pub AskNoRestart : (words : List (List ℕ)) → Type 0
+AskNoRestart words = (order : Order) → AsksRestart words order → ⊥

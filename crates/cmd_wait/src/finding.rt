@@ -1,11 +1,12 @@
 //! What a look at a service finds.
 ghost use Rattle.std.specs.Prelude.{◌≡◌};
 ghost use Rattle.tai_status.specs.Extended.{Extended};
-ghost use Rattle.cmd_wait.specs.Finding.{absent_finding, calls_of_age, has_lasted, is_down, is_up, process_asked};
-ghost use Rattle.cmd_wait.specs.Finding.{reached_if, record_finding, unread_finding, unsupervised_finding, Finds};
+ghost use Rattle.cmd_wait.specs.Finding.{absent_finding, calls_of_age, has_lasted, is_another, is_down, is_up};
+ghost use Rattle.cmd_wait.specs.Finding.{process_asked, reached_if, record_finding, service, unread_finding};
+ghost use Rattle.cmd_wait.specs.Finding.{unsupervised_finding, Finds};
 
 use cmd_svc::{Services, Unreached};
-use tai_status::{Loaded, Phase, RecordFault, decode_front};
+use tai_status::{Label, Loaded, Phase, RecordFault, View, decode_front};
 
 /// The age, in hundredths of a second, from which the process of a service counts as up.
 const LASTING: u128 = 200;
@@ -20,6 +21,25 @@ pub enum WaitState {
     Down,
     /// It is no longer supervised.
     Unsupervised,
+    /// It is up as for `Up`, with another process than the one that the first look saw.
+    Another,
+}
+
+/// A process of a service, as its status record names it.
+#[derive(Clone, Copy, Debug, PartialEq, Eq)]
+pub struct Mark {
+    /// Its number, at least 1.
+    pub pid: u32,
+    /// When it was started.
+    pub label: Label,
+}
+
+/// A service that is waited for.
+#[derive(Clone, Copy, Debug)]
+pub(crate) struct Entry<'a> {
+    pub folder: &'a str,
+    /// The process that the first look saw there, if there was one and it counts.
+    pub mark: Option<Mark>,
 }
 
 /// What is waited for.
@@ -41,6 +61,10 @@ pub enum WaitFault {
     Unread,
     /// Its status is not a record.
     Bad(RecordFault),
+    /// The first look found that it takes no connection.
+    Unanswered,
+    /// It is to be restarted, and is not wanted up.
+    NotWantedUp,
 }
 
 /// What a look at a service found.
@@ -83,7 +107,7 @@ fn unread_finding(state: WaitState) -> Finding
 {
     match state {
         WaitState::Unsupervised => Finding::Waiting,
-        WaitState::Up | WaitState::Down => Finding::Failed(WaitFault::Unread),
+        WaitState::Up | WaitState::Down | WaitState::Another => Finding::Failed(WaitFault::Unread),
     }
 }
 
@@ -139,7 +163,9 @@ fn process_asked(state: WaitState, read: &Result<Loaded, RecordFault>) -> Option
     ensures { result ≡ process_asked state read.now }
 {
     match (state, read) {
-        (WaitState::Up, Ok(loaded)) if is_up(loaded) => Some(loaded.view().pid),
+        (WaitState::Up | WaitState::Another, Ok(loaded)) if is_up(loaded) => {
+            Some(loaded.view().pid)
+        }
         _ => None,
     }
 }
@@ -156,35 +182,54 @@ fn age_asked<S: Services>(
     services.age(process_asked(state, read)?)
 }
 
-/// Returns what is found about a service, from what its status file says, and from the age of its process if that was
-/// asked for.
+/// Returns whether the process of a record is another one than that of a mark. It is if there is no mark.
+fn is_another(mark: Option<Mark>, view: &View) -> bool
+    ensures { result ≡ is_another mark view.now }
+{
+    match mark {
+        None => true,
+        Some(mark) => {
+            !(mark.pid == view.pid
+                && mark.label.sec == view.label.sec
+                && mark.label.nano == view.label.nano)
+        }
+    }
+}
+
+/// Returns what is found about a service, from its mark and from what its status file says, and from the age of its
+/// process if that was asked for.
 fn record_finding(
     state: WaitState,
+    mark: Option<Mark>,
     read: &Result<Loaded, RecordFault>,
     age: Option<u128>,
 ) -> Finding
-    ensures { result ≡ record_finding state read.now age }
+    ensures { result ≡ record_finding state mark read.now age }
 {
     match (state, read) {
         (WaitState::Unsupervised, _) => Finding::Waiting,
         (_, Err(fault)) => Finding::Failed(WaitFault::Bad(*fault)),
         (WaitState::Up, Ok(loaded)) => reached_if(is_up(loaded) && has_lasted(age)),
         (WaitState::Down, Ok(loaded)) => reached_if(is_down(loaded)),
+        (WaitState::Another, Ok(loaded)) => {
+            reached_if(is_up(loaded) && has_lasted(age) && is_another(mark, &loaded.view()))
+        }
     }
 }
 
-/// Looks at the service in a folder: whether it is supervised, and then its status. If the service should be up and its
-/// record says that it is, also looks how long its process has lived.
-pub(crate) fn look<S: Services>(services: &mut S, goal: Goal, folder: &str) -> Finding
-    ensures { Finds goal folder.now result (S.calls services.old) (S.calls services.new) }
+/// Looks at a service: whether it is supervised, and then its status. If the service should be up and its record says
+/// that it is, also looks how long its process has lived.
+pub(crate) fn look<S: Services>(services: &mut S, goal: Goal, entry: &Entry<'_>) -> Finding
+    ensures { Finds goal (service entry.now.folder.now entry.now.mark) result
+        (S.calls services.old) (S.calls services.new) }
 {
-    if let Err(why) = services.reach(folder) {
+    if let Err(why) = services.reach(entry.folder) {
         return absent_finding(goal, why);
     }
-    let Ok(front) = services.read_status(folder) else {
+    let Ok(front) = services.read_status(entry.folder) else {
         return unread_finding(goal.state);
     };
     let read = decode_front(front.as_slice());
     let age = age_asked(services, goal.state, &read);
-    record_finding(goal.state, &read, age)
+    record_finding(goal.state, entry.mark, &read, age)
 }

@@ -3,7 +3,7 @@ ghost use Rattle.std.specs.Prelude.{◌≡◌, ⊤, ℕ, Option, MatchOption, If
 ghost use Rattle.cmd_svc.specs.Words.{texts};
 ghost use Rattle.cmd_wait.specs.Words.{behind_state, behind_limit, behind_options, first_state, state_in, state_of};
 ghost use Rattle.cmd_wait.specs.Words.{order, services_of};
-ghost use Rattle.cmd_wait.specs.Words.{AreSeconds, AskNothing, Asks, FirstLimit};
+ghost use Rattle.cmd_wait.specs.Words.{AreSeconds, AskNoRestart, AskNothing, Asks, AsksRestart, FirstLimit};
 
 use crate::finding::{Goal, WaitState};
 use cmd_svc::is_option;
@@ -26,6 +26,7 @@ fn state_of(word: &str) -> Option<WaitState>
         "-u" => Some(WaitState::Up),
         "-d" => Some(WaitState::Down),
         "-x" => Some(WaitState::Unsupervised),
+        "-r" => Some(WaitState::Another),
         _ => None,
     }
 }
@@ -96,7 +97,7 @@ fn services_of<'a>(words: &'a [&'a str]) -> &'a [&'a str]
     }
 }
 
-/// Returns what words ask for: `[-u|-d|-x] [-t SECONDS] SERVICE..`, with the options in either order, and with or
+/// Returns what words ask for: `[-u|-d|-x|-r] [-t SECONDS] SERVICE..`, with the options in either order, and with or
 /// without a `--` after them. Returns None if they ask for nothing.
 pub fn read_options<'a>(words: &'a [&'a str]) -> Option<Options<'a>>
     ensures wrong { MatchOption result (AskNothing (texts words.entry.now)) (λ _. ⊤) }
@@ -137,4 +138,27 @@ fn behind_options<'a>(words: &'a [&'a str]) -> &'a [&'a str]
         Some(_) => behind_limit(behind_state(words)),
         None => behind_state(behind_limit(words)),
     }
+}
+
+/// Returns which restart words ask for: `[-t SECONDS] SERVICE..`, with or without a `--` before the services. Returns
+/// None if they ask for none.
+pub fn read_restart<'a>(words: &'a [&'a str]) -> Option<Options<'a>>
+    ensures wrong { MatchOption result (AskNoRestart (texts words.entry.now)) (λ _. ⊤) }
+    ensures asks { IfSome result (λ options.
+        AsksRestart (texts words.entry.now) (order options.goal options.limit (texts options.services.now))) }
+{
+    let limit = first_limit(words)?;
+    let goal = Goal {
+        state: WaitState::Another,
+        awaits_supervision: limit.is_some(),
+    };
+    let services = services_of(behind_limit(words));
+    if services.is_empty() {
+        return None;
+    }
+    Some(Options {
+        goal,
+        limit,
+        services,
+    })
 }

@@ -1,10 +1,10 @@
 //! One round over the services that are left.
 ghost use Rattle.std.specs.Prelude.{◌≡◌, ◌↔◌, [], IsTrue, OnOk, IfErr};
-ghost use Rattle.cmd_svc.specs.Words.{texts};
+ghost use Rattle.cmd_wait.specs.Finding.{awaited};
 ghost use Rattle.cmd_wait.specs.Rounds.{FailsWith, LooksAt};
 ghost use Rattle.cmd_wait.specs.Steps.{IsOver};
 
-use crate::finding::{Finding, Goal, WaitFault, look};
+use crate::finding::{Entry, Finding, Goal, WaitFault, look};
 use cmd_svc::Services;
 use std::alloc::Allocator;
 
@@ -20,17 +20,18 @@ pub(crate) struct Failure<'a> {
 pub(crate) fn look_at_each<'a, S: Services, A: Allocator>(
     services: &mut S,
     goal: Goal,
-    left: &mut Vec<&'a str, A>,
+    left: &mut Vec<Entry<'a>, A>,
 ) -> Result<(), Failure<'a>>
-    ensures ok { OnOk result (LooksAt goal (texts left.old.items) (texts left.new.items) []
+    ensures ok { OnOk result (LooksAt goal (awaited left.old.items) (awaited left.new.items) []
         (S.calls services.old) (S.calls services.new)) }
     ensures err { IfErr result (λ failure.
-        FailsWith failure goal (texts left.old.items) (S.calls services.old) (S.calls services.new)) }
+        FailsWith failure goal (awaited left.old.items) (S.calls services.old) (S.calls services.new)) }
 {
     let mut at = 0;
     while at < left.len() {
-        let folder = left[at];
-        match look(services, goal, folder) {
+        let entry = &left[at];
+        let folder = entry.folder;
+        match look(services, goal, entry) {
             Finding::Reached => {
                 left.remove(at);
             }

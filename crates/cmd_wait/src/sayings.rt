@@ -1,13 +1,13 @@
 //! What is reported about services.
 ghost use Rattle.std.specs.Prelude.{◌≡◌};
 ghost use Rattle.cmd_svc.specs.Turns.{InTurn};
-ghost use Rattle.cmd_svc.specs.Words.{texts};
 ghost use Rattle.tai_status.specs.Counted.{Reports};
+ghost use Rattle.cmd_wait.specs.Finding.{entry_folders};
 ghost use Rattle.cmd_wait.specs.Ends.{bad_note, fault_note, fault_status, over_note, report_of, ReportsOver};
 
-use crate::finding::{WaitFault, WaitState};
+use crate::finding::{Entry, WaitFault, WaitState};
 use crate::rounds::Failure;
-use cmd_base::{DONE, TROUBLE, report_parts};
+use cmd_base::{DONE, REFUSED, TROUBLE, report_parts};
 use std::io::Write;
 use tai_status::{Output, RecordFault};
 
@@ -39,6 +39,8 @@ fn fault_note(fault: WaitFault) -> &'static [u8]
         WaitFault::Denied => b": unable to open supervise/ok: Permission denied\n",
         WaitFault::Unread => b": unable to read status\n",
         WaitFault::Bad(fault) => bad_note(fault),
+        WaitFault::Unanswered => b": unable to open supervise/ok: no answer\n",
+        WaitFault::NotWantedUp => b": not wanted up\n",
     }
 }
 
@@ -48,18 +50,26 @@ fn fault_status(fault: WaitFault) -> u8
 {
     match fault {
         WaitFault::NotSupervised => NOT_SUPERVISED,
-        WaitFault::Denied | WaitFault::Unread | WaitFault::Bad(_) => TROUBLE,
+        WaitFault::NotWantedUp => REFUSED,
+        WaitFault::Denied | WaitFault::Unread | WaitFault::Bad(_) | WaitFault::Unanswered =>
+            TROUBLE,
     }
 }
 
-/// Reports that a service can't be waited for, and returns the exit status for that.
-pub(crate) fn report_failure<E: Write>(failure: &Failure<'_>, faults: &mut Output<E>) -> u8
+/// Reports that a service can't be waited for, and returns the exit status for that. The name of the command includes its
+/// `: `.
+pub(crate) fn report_failure<E: Write>(
+    command: &[u8],
+    failure: &Failure<'_>,
+    faults: &mut Output<E>,
+) -> u8
     ensures status { result ≡ fault_status failure.now.fault }
-    ensures reported { Reports faults.old faults.new (report_of failure.now.folder.now (fault_note failure.now.fault)) }
+    ensures reported { Reports faults.old faults.new
+        (report_of command.now failure.now.folder.now (fault_note failure.now.fault)) }
 {
     report_parts(
         faults,
-        b"wait: ",
+        command,
         failure.folder.as_bytes(),
         fault_note(failure.fault),
         fault_status(failure.fault),
@@ -74,14 +84,21 @@ fn over_note(state: WaitState) -> &'static [u8]
         WaitState::Up => b": not up in time\n",
         WaitState::Down => b": not down in time\n",
         WaitState::Unsupervised => b": still supervised\n",
+        WaitState::Another => b": not restarted in time\n",
     }
 }
 
-/// Reports that the time is over, one line for each of these services.
-pub(crate) fn report_over<E: Write>(state: WaitState, left: &[&str], faults: &mut Output<E>)
-    ensures { InTurn (ReportsOver state) (texts left.now) faults.old faults.new }
+/// Reports that the time is over, one line for each of these services. The name of the command includes its `: `.
+pub(crate) fn report_over<E: Write>(
+    command: &[u8],
+    state: WaitState,
+    left: &[Entry<'_>],
+    faults: &mut Output<E>,
+)
+    ensures { InTurn (ReportsOver command.now state) (entry_folders left.now) faults.old faults.new }
 {
-    for folder in left {
-        report_parts(faults, b"wait: ", folder.as_bytes(), over_note(state), DONE);
+    for entry in left {
+        let folder = entry.folder.as_bytes();
+        report_parts(faults, command, folder, over_note(state), DONE);
     }
 }

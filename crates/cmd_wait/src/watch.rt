@@ -1,8 +1,9 @@
 //! The pause between two rounds.
 ghost use Rattle.std.specs.Prelude.{◌≡◌};
-ghost use Rattle.cmd_svc.specs.Words.{texts};
+ghost use Rattle.cmd_wait.specs.Finding.{entry_folders};
 ghost use Rattle.cmd_wait.specs.Watching.{is_same, newer, LearnsNewest, PausesFor, Rests};
 
+use crate::finding::Entry;
 use crate::pace::Pace;
 use crate::rounds::is_over;
 use cmd_svc::Services;
@@ -71,12 +72,12 @@ fn newer(one: Option<u64>, other: Option<u64>) -> Option<u64>
 }
 
 /// Returns when something last changed in a folder of these services, if that is known for each.
-fn newest_change<S: Services>(services: &mut S, folders: &[&str]) -> Option<u64>
-    ensures { LearnsNewest (texts folders.now) result (S.calls services.old) (S.calls services.new) }
+fn newest_change<S: Services>(services: &mut S, entries: &[Entry<'_>]) -> Option<u64>
+    ensures { LearnsNewest (entry_folders entries.now) result (S.calls services.old) (S.calls services.new) }
 {
     let mut newest = Some(0);
-    for folder in folders {
-        newest = newer(newest, services.changed_at(folder));
+    for entry in entries {
+        newest = newer(newest, services.changed_at(entry.folder));
     }
     newest
 }
@@ -88,7 +89,7 @@ fn rest_once<S: Services, P: Pace>(
     watch: &mut Watch,
     limit: Option<u32>,
     begin: u64,
-    left: &[&str],
+    left: &[Entry<'_>],
 ) -> bool
     ensures { Rests limit begin left.now result watch.old watch.new
         (S.calls services.old) (S.calls services.new) (P.steps pace.old) (P.steps pace.new) }
@@ -106,7 +107,7 @@ pub(crate) fn pause<S: Services, P: Pace>(
     watch: &mut Watch,
     limit: Option<u32>,
     begin: u64,
-    left: &[&str],
+    left: &[Entry<'_>],
 )
     ensures { PausesFor limit begin left.now watch.old watch.new
         (S.calls services.old) (S.calls services.new) (P.steps pace.old) (P.steps pace.new) }

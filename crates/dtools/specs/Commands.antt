@@ -25,6 +25,7 @@ use Rattle.cmd_why.specs.Texts.{Knowledge}
 use Rattle.cmd_why.specs.Why.{WhyEnds}
 use Rattle.cmd_wait.specs.Steps.{Step, sight}
 use Rattle.cmd_wait.specs.Ends as waiting
+use Rattle.cmd_wait.specs.Restarting as restarting
 use Rattle.svscan_rounds.specs.Calls as handling
 use Rattle.svscan_rounds.specs.Rounds as svscan
 
@@ -91,11 +92,14 @@ ReasonEnds command.Why words status known old new =
     new.console.faults
 ReasonEnds other words status known old new = ⊤
 
--- Only `wait` has a pace, with these steps.
+-- Only `wait` and `restart` have a pace, with these steps.
 abbrev pub PacedEnds : Command → (words : List (List ℕ)) (status : ℕ) (steps taken : Option (List Step))
     (old new : Equipment) → Type 0
 PacedEnds command.Wait words status steps taken old new =
     waiting.EndsByWords words status (waiting.scene (sight old.sight.calls steps) old.console.faults)
+    (waiting.scene (sight new.sight.calls taken) new.console.faults)
+PacedEnds command.Restart words status steps taken old new =
+    restarting.EndsByWords words status (waiting.scene (sight old.sight.calls steps) old.console.faults)
     (waiting.scene (sight new.sight.calls taken) new.console.faults)
 PacedEnds other words status steps taken old new = taken ≡ steps
 
@@ -120,6 +124,7 @@ prints command.Multilog = false
 prints command.Svc = false
 prints command.Svok = false
 prints command.Wait = false
+prints command.Restart = false
 prints command.Svscan = false
 prints other = true
 
@@ -130,6 +135,7 @@ asks_services command.Svstat = true
 asks_services command.Svok = true
 asks_services command.Why = true
 asks_services command.Wait = true
+asks_services command.Restart = true
 asks_services other = false
 
 -- the commands that read the clock

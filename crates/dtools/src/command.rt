@@ -21,7 +21,7 @@ use cmd_sim::run_sim;
 use cmd_svc::{Services, run_svc, run_svok};
 use cmd_svscan::{ServiceSet, run_svscan};
 use cmd_trace::run_trace;
-use cmd_wait::{Pace, run_wait};
+use cmd_wait::{Pace, run_restart, run_wait};
 use cmd_why::{LocalTimes, ServiceEvidence, ServiceFiles, run_why};
 use mlog_core::PartedInput;
 use std::io::{Read, Write};
@@ -110,6 +110,10 @@ where
         Command::Wait => {
             let services = &mut observer.services;
             return run_wait(waiting, rt.alloc(), services, pace, words, faults);
+        }
+        Command::Restart => {
+            let services = &mut observer.services;
+            return run_restart(waiting, rt.alloc(), services, pace, words, faults);
         }
         Command::Svscan => return run_svscan(waiting, service_set, words, faults),
         Command::Envdir => return run_envdir(rt, launcher, rt.alloc(), words, writer, faults),

@@ -106,7 +106,14 @@ fn word_of(rt: &HostRuntime, before: &[String], bytes: Vec<u8>) -> Result<String
 fn names_services(command: &str) -> bool {
     matches!(
         Command::named(command),
-        Some(Command::Svc | Command::Svstat | Command::Svok | Command::Wait | Command::Why)
+        Some(
+            Command::Svc
+                | Command::Svstat
+                | Command::Svok
+                | Command::Wait
+                | Command::Restart
+                | Command::Why
+        )
     )
 }
 

@@ -4,7 +4,7 @@ use Rattle.cmd_svc.specs.Words.{texts, option_letters, first_unknown}
 use Rattle.cmd_svc.specs.Words.{order_bytes, service_words}
 use Rattle.cmd_svc.specs.Missing.{TellsEach, telling}
 use Rattle.cmd_svc.specs.Turns.{InTurn}
-use Rattle.cmd_svc.specs.Svc.{effects, sending, RefusesLetter, Serves, ServesWords, LacksMemory}
+use Rattle.cmd_svc.specs.Svc.{effects, sending, RefusesLetter, Serves, ServesWords, LacksMemory, svc_warning}
 use Rattle.cmd_svc.proofs.Refusals.{letter-refused, memory-lacks, order-serves}
 use Rattle.cmd_svc.proofs.svc.run_order.Goals as goal
 
@@ -52,9 +52,9 @@ returns-in-Ok g c =
     let names : c.as_slice-names.result.now ≡ service_words words = search rules in
     let start = sending old.calls old.faults false in
     let end = sending served.calls served.faults c.serve_each-missed.result in
-    let serves : InTurn (Serves (order_bytes words)) (service_words words) start end =
-    subst (λ (b : List ℕ). InTurn (Serves b) (service_words words) start end) bytes
-    (subst (λ (n : List (List ℕ)). InTurn (Serves c.as_slice.result.now) n start end) names
+    let serves : InTurn (Serves svc_warning (order_bytes words)) (service_words words) start end =
+    subst (λ (b : List ℕ). InTurn (Serves svc_warning b) (service_words words) start end) bytes
+    (subst (λ (n : List (List ℕ)). InTurn (Serves svc_warning c.as_slice.result.now) n start end) names
     c.serve_each-missed.ensures) in
     let told : TellsEach (codes "svc: ") (service_words words) (telling served.calls served.faults)
     (telling new.calls new.faults) =

@@ -1,5 +1,4 @@
 use Rattle.std.proofs.Common.{rules, ◌≡◌, ℕ, List, ◌++◌, Some, refl, subst}
-use Rattle.std.specs.Prelude.{codes}
 use Rattle.tai_status.specs.Counted.{Reports}
 use Rattle.cmd_svc.specs.Svc.{reason}
 use Rattle.cmd_svc.proofs.svc.serve.Goals as goal
@@ -7,7 +6,7 @@ use Rattle.cmd_svc.proofs.svc.serve.Goals as goal
 pub returns-in-Err : goal.returns-in-Err
 returns-in-Err g c =
     let reports = λ (text : List ℕ). Reports c.args.faults.now c.report_parts.new.faults
-    (codes "svc: warning: unable to control " ++ text) in
+    (c.args.warning.now ++ text) in
     let folder : c.as_bytes.result.now ≡ c.args.folder.now = search rules in
     let said : c.reason.result.now ≡ reason c.in-Err.why = search rules in
     record {

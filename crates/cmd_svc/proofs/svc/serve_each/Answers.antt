@@ -1,7 +1,7 @@
 use Rattle.std.proofs.Common.{rules, ◌≡◌, ◌∙◌, ◌+◌, ◌<◌, ℕ, List, [], ◌∷◌, ◌++◌, take, length, ap, sym, subst, false}
 use Rattle.std.proofs.lemmas.List.{take_more}
 use Rattle.cmd_svc.specs.Turns.{InTurn}
-use Rattle.cmd_svc.specs.Svc.{sending, Serves}
+use Rattle.cmd_svc.specs.Svc.{sending, Serves, svc_warning}
 use Rattle.cmd_svc.proofs.Turns.{in_turn-then}
 use Rattle.cmd_svc.proofs.svc.serve_each.Goals as goal
 
@@ -19,5 +19,5 @@ loop-name-preserved g c =
     let is : take (i + 1) names ≡ take i names ++ name ∷ [] =
     take_more names i c.name-item.result within
     ∙ ap (λ (n : List ℕ). take i names ++ n ∷ []) (sym (c.as_str.ensures ∙ c.name-item.is)) in
-    subst (λ (done : List (List ℕ)). InTurn (Serves bytes) done old new) (sym is)
-    (in_turn-then (Serves bytes) (take i names) name old middle new c.loop-name.invariant c.serve-missed.ensures)
+    subst (λ (done : List (List ℕ)). InTurn (Serves svc_warning bytes) done old new) (sym is)
+    (in_turn-then (Serves svc_warning bytes) (take i names) name old middle new c.loop-name.invariant c.serve-missed.ensures)

@@ -18,7 +18,8 @@ returns g c =
     let asked = g.S.Services.calls c.reach.new.self in
     let read = g.S.Services.calls c.read_status.new.self in
     let aged = g.S.Services.calls c.age_asked-age.new.services in
-    let folder = c.args.folder.now in
+    let folder = c.args.entry.now.folder.now in
+    let mark = c.args.entry.now.mark in
     let bytes = c.in-Ok.front.items in
     let state = c.args.goal.state in
     let is = c.decode_front-read.ensures.read ∙ ap loaded_from c.as_slice.ensures.value in
@@ -30,7 +31,7 @@ returns g c =
     is c.age_asked-age.ensures in record {
       sighting = Shown bytes c.age_asked-age.result;
       is = c.record_finding.ensures
-          ∙ ap (λ (r : Result Loaded RecordFault). record_finding state r c.age_asked-age.result) is;
+          ∙ ap (λ (r : Result Loaded RecordFault). record_finding state mark r c.age_asked-age.result) is;
       calls = extended-then past read aged (Reached folder None ∷ ReadStatus folder (Some bytes) ∷ [])
           (calls_of_age (process_asked state (loaded_from bytes)) c.age_asked-age.result)
           (extended-then past asked read (Reached folder None ∷ []) (ReadStatus folder (Some bytes) ∷ []) first second)

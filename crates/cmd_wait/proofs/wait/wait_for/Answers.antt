@@ -1,48 +1,51 @@
-use Rattle.std.proofs.Common.{rules, ◌≡◌, ℕ, List, [], length, refl, sym, subst, inl, inr, Bor}
-use Rattle.cmd_svc.specs.Words.{texts}
+use Rattle.std.proofs.Common.{rules, ◌≡◌, ℕ, List, [], length, refl, sym, subst, inl, inr}
 use Rattle.tai_status.specs.Counted.{Device, Reports}
 use Rattle.cmd_svc.specs.Turns.{InTurn}
-use Rattle.cmd_wait.specs.Words.{order}
+use Rattle.cmd_wait.specs.Finding.{Awaited, awaited, entry_folders, folders}
+use Rattle.cmd_wait.specs.declared.finding.Entry.{Entry}
 use Rattle.cmd_wait.specs.Steps.{Sight, sight, IsOver}
 use Rattle.cmd_wait.specs.Watching.{Watched, watched, first_watch, Pauses}
 use Rattle.cmd_wait.specs.declared.watch.Watch.{Watch}
 use Rattle.cmd_wait.specs.Rounds.{LooksAt}
-use Rattle.cmd_wait.specs.Ends.{scene, ReportsOver, fault_note, report_of}
+use Rattle.cmd_wait.specs.Ends.{scene, ReportsOver, fault_note, order_of, report_of}
 use Rattle.cmd_wait.proofs.Found.{all-found}
-use Rattle.cmd_wait.proofs.Waiting.{IsUnderWay, way-begins, way-more, way-ends, texts-empty, texts-some}
+use Rattle.cmd_wait.proofs.Waiting.{IsUnderWay, way-begins, way-more, way-ends, none-left, some-left}
+use Rattle.cmd_wait.proofs.Looking.{folders-awaited}
 use Rattle.cmd_wait.proofs.wait.wait_for.Goals as goal
 
 pub loop-init : goal.loop-init
 loop-init g c =
-    let o = order c.args.options.now.goal c.args.options.now.limit (texts c.args.options.now.services.now) in
+    let o = order_of c.args.options.now in
+    let asked = awaited c.args.entries.items in
+    let command = c.args.command.now in
     let calls = g.S.Services.calls c.args.services.now in
     let steps = g.P.Pace.steps in
     let old : Sight = sight calls (steps c.args.pace.now) in
     let now : Sight = sight calls (steps c.now-begin.new.self) in
-    let begins : IsUnderWay o c.now-begin.result old (texts c.args.names.items) (watched first_watch now) =
-    subst (λ (items : List (Bor (List ℕ))). IsUnderWay o c.now-begin.result old (texts items) (watched first_watch now))
-    (sym c.requires)
-    (way-begins o c.now-begin.result calls (steps c.args.pace.now) (steps c.now-begin.new.self)
-    c.now-begin.ensures.read) in (
-      subst (λ (watch : Watch). IsUnderWay o c.now-begin.result old (texts c.args.names.items) (watched watch now))
+    let begins : IsUnderWay o asked c.now-begin.result old asked (watched first_watch now) =
+    way-begins o asked c.now-begin.result calls (steps c.args.pace.now) (steps c.now-begin.new.self)
+    c.now-begin.ensures.read in (
+      subst (λ (watch : Watch). IsUnderWay o asked c.now-begin.result old asked (watched watch now))
           (sym c.new-watch.ensures) begins,
       refl,
     )
 
 pub returns-in-Err : goal.returns-in-Err
 returns-in-Err g c =
-    let o = order c.args.options.now.goal c.args.options.now.limit (texts c.args.options.now.services.now) in
+    let o = order_of c.args.options.now in
+    let asked = awaited c.args.entries.items in
+    let command = c.args.command.now in
     let calls = g.S.Services.calls in
     let steps = g.P.Pace.steps in
     let failure = c.in-Err.failure in
     let reported : Reports c.args.faults.now c.report_failure.new.faults
-    (report_of failure.folder.now (fault_note failure.fault)) =
+    (report_of command failure.folder.now (fault_note failure.fault)) =
     subst (λ (d : Device). Reports d c.report_failure.new.faults
-    (report_of failure.folder.now (fault_note failure.fault)))
+    (report_of command failure.folder.now (fault_note failure.fault)))
     c.loop.invariant.1 c.report_failure.ensures.reported in
-    way-ends o c.now-begin.result c.report_failure.result (sight (calls c.args.services.now) (steps c.args.pace.now))
+    way-ends command o asked c.now-begin.result c.report_failure.result (sight (calls c.args.services.now) (steps c.args.pace.now))
     (watched c.loop.watch (sight (calls c.loop.services) (steps c.loop.pace)))
-    (texts c.loop.left.items) c.args.faults.now
+    (awaited c.loop.left.items) c.args.faults.now
     (scene (sight (calls c.look_at_each.new.services) (steps c.now-now.new.self)) c.report_failure.new.faults)
     c.loop.invariant.0
     (inr (inr (record {
@@ -57,21 +60,23 @@ returns-in-Err g c =
 
 pub returns-then-is_empty : goal.returns-then-is_empty
 returns-then-is_empty g c =
-    let o = order c.args.options.now.goal c.args.options.now.limit (texts c.args.options.now.services.now) in
+    let o = order_of c.args.options.now in
+    let asked = awaited c.args.entries.items in
+    let command = c.args.command.now in
     let calls = g.S.Services.calls in
     let steps = g.P.Pace.steps in
     let items = c.look_at_each.new.left.items in
     let empty : length items ≡ 0 = search rules in
-    let looked : LooksAt o.goal (texts c.loop.left.items) (texts items) [] (calls c.loop.services)
+    let looked : LooksAt o.goal (awaited c.loop.left.items) (awaited items) [] (calls c.loop.services)
     (calls c.look_at_each.new.services) = c.in_default.ensures.ok in
-    let nothing : LooksAt o.goal (texts c.loop.left.items) [] [] (calls c.loop.services)
+    let nothing : LooksAt o.goal (awaited c.loop.left.items) [] [] (calls c.loop.services)
     (calls c.look_at_each.new.services) =
-    subst (λ (left : List (List ℕ)). LooksAt o.goal (texts c.loop.left.items) left [] (calls c.loop.services)
+    subst (λ (left : List Awaited). LooksAt o.goal (awaited c.loop.left.items) left [] (calls c.loop.services)
     (calls c.look_at_each.new.services))
-    (texts-empty items empty) looked in
-    way-ends o c.now-begin.result 0 (sight (calls c.args.services.now) (steps c.args.pace.now))
+    (none-left items empty) looked in
+    way-ends command o asked c.now-begin.result 0 (sight (calls c.args.services.now) (steps c.args.pace.now))
     (watched c.loop.watch (sight (calls c.loop.services) (steps c.loop.pace)))
-    (texts c.loop.left.items) c.args.faults.now
+    (awaited c.loop.left.items) c.args.faults.now
     (scene (sight (calls c.look_at_each.new.services) (steps c.now-now.new.self)) c.loop.faults)
     c.loop.invariant.0
     (inl (record {
@@ -87,27 +92,31 @@ returns-then-is_empty g c =
 
 pub returns-then-is_over : goal.returns-then-is_over
 returns-then-is_over g c =
-    let o = order c.args.options.now.goal c.args.options.now.limit (texts c.args.options.now.services.now) in
+    let o = order_of c.args.options.now in
+    let asked = awaited c.args.entries.items in
+    let command = c.args.command.now in
     let calls = g.S.Services.calls in
     let steps = g.P.Pace.steps in
     let items = c.look_at_each.new.left.items in
     let some : length items ≡ 0 → ⊥ = search rules in
     let over : IsOver o.limit c.now-begin.result c.now-now.result = search rules in
     let all : c.deref.result.now ≡ items = search rules in
-    let reported : InTurn (ReportsOver o.goal.state) (texts items) c.args.faults.now c.report_over.new.faults =
-    subst (λ (d : Device). InTurn (ReportsOver o.goal.state) (texts items) d c.report_over.new.faults) c.loop.invariant.1
-    (subst (λ (left : List (Bor (List ℕ))).
-    InTurn (ReportsOver o.goal.state) (texts left) c.loop.faults c.report_over.new.faults) all c.report_over.ensures) in
-    way-ends o c.now-begin.result 99 (sight (calls c.args.services.now) (steps c.args.pace.now))
+    let over_each = λ (left : List (List ℕ)) (d : Device).
+    InTurn (ReportsOver command o.goal.state) left d c.report_over.new.faults in
+    let reported : over_each (folders (awaited items)) c.args.faults.now =
+    subst (λ (left : List (List ℕ)). over_each left c.args.faults.now) (sym (folders-awaited items))
+    (subst (λ (d : Device). over_each (entry_folders items) d) c.loop.invariant.1
+    (subst (λ (left : List Entry). over_each (entry_folders left) c.loop.faults) all c.report_over.ensures)) in
+    way-ends command o asked c.now-begin.result 99 (sight (calls c.args.services.now) (steps c.args.pace.now))
     (watched c.loop.watch (sight (calls c.loop.services) (steps c.loop.pace)))
-    (texts c.loop.left.items) c.args.faults.now
+    (awaited c.loop.left.items) c.args.faults.now
     (scene (sight (calls c.look_at_each.new.services) (steps c.now-now.new.self)) c.report_over.new.faults)
     c.loop.invariant.0
     (inr (inl (record {
       now = c.now-now.result;
-      left = texts items;
+      left = awaited items;
       takes = record { read = c.now-now.ensures.read; looked = c.in_default.ensures.ok };
-      some = texts-some items some;
+      some = some-left items some;
       over = over;
       status_is = refl;
       reported = reported;
@@ -115,7 +124,9 @@ returns-then-is_over g c =
 
 pub loop-preserved : goal.loop-preserved
 loop-preserved g c =
-    let o = order c.args.options.now.goal c.args.options.now.limit (texts c.args.options.now.services.now) in
+    let o = order_of c.args.options.now in
+    let asked = awaited c.args.entries.items in
+    let command = c.args.command.now in
     let calls = g.S.Services.calls in
     let steps = g.P.Pace.steps in
     let items = c.look_at_each.new.left.items in
@@ -126,12 +137,13 @@ loop-preserved g c =
     let middle : Watched =
     watched c.loop.watch (sight (calls c.look_at_each.new.services) (steps c.now-now.new.self)) in
     let new : Watched = watched c.pause.new.watch (sight (calls c.pause.new.services) (steps c.pause.new.pace)) in
-    let pauses : Pauses o.limit c.now-begin.result (texts items) middle new =
-    subst (λ (left : List (Bor (List ℕ))). Pauses o.limit c.now-begin.result (texts left) middle new) all
-    c.pause.ensures in (
-      way-more o c.now-begin.result c.now-now.result (sight (calls c.args.services.now) (steps c.args.pace.now))
-          (texts c.loop.left.items) (texts items)
+    let pauses : Pauses o.limit c.now-begin.result (folders (awaited items)) middle new =
+    subst (λ (left : List (List ℕ)). Pauses o.limit c.now-begin.result left middle new) (sym (folders-awaited items))
+    (subst (λ (left : List Entry). Pauses o.limit c.now-begin.result (entry_folders left) middle new) all
+    c.pause.ensures) in (
+      way-more o asked c.now-begin.result c.now-now.result (sight (calls c.args.services.now) (steps c.args.pace.now))
+          (awaited c.loop.left.items) (awaited items)
           was new (calls c.look_at_each.new.services) (steps c.now-now.new.self)
-          c.loop.invariant.0 c.now-now.ensures.read c.in_default.ensures.ok (texts-some items some) in_time pauses,
+          c.loop.invariant.0 c.now-now.ensures.read c.in_default.ensures.ok (some-left items some) in_time pauses,
       c.loop.invariant.1,
     )
