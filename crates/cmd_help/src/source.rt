@@ -4,4 +4,4 @@
 pub(crate) const KIT: &str = "rattle-kit-13f logic dac8208d650f15bf";
 
 /// The sum of its sources, as packaging/source-sum says it.
-pub(crate) const SOURCE: &str = "aa3dae82806992eebe6863c9317dd642abae1a2dc418953b9876323221d73739";
+pub(crate) const SOURCE: &str = "cddd01e0730d7586a72cb70ed5fb4074451f2b903324e1414d65affc9f3478d7";

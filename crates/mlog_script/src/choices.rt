@@ -184,11 +184,11 @@ fn is_chosen_noted<B: Allocator + Clone>(
     ensures { result ≡ unwrap_or (last_given (decision front.now) (map act actions.now)) before }
 {
     let mut rest = actions;
-    while let [earlier @ .., last] = rest {
+    while let [others @ .., last] = rest {
         if let Some(chosen) = last.decision_noted(front) {
             return chosen;
         }
-        rest = earlier;
+        rest = others;
     }
     before
 }

@@ -1,17 +1,15 @@
 -- The pairs of a pattern, and of the texts that it matches.
-use Rattle.std.proofs.Common.{◌≡◌, ℕ, ◌<◌, ◌≤◌, ◌+◌, ◌*◌, ◌==◌, ◌&&◌, ◌||◌, ◌⊎◌, inl, inr, Bool, true, false, List, []}
-use Rattle.std.proofs.Common.{◌∷◌, ◌++◌, length, get_or, set, Some, refl, sym, subst, ap, ◌∙◌, arith}
-use Rattle.std.proofs.Common.{get_or-set_same, get_or-set_other}
+use Rattle.std.proofs.Common.{◌≡◌, ℕ, ◌<◌, ◌≤◌, ◌+◌, ◌*◌, ◌==◌, ◌&&◌, ◌⊎◌, inl, inr, Bool, true, false, List, [], ◌∷◌}
+use Rattle.std.proofs.Common.{◌++◌, length, get_or, set, Some, refl, sym, subst, ap, ◌∙◌, arith, get_or-set_same}
+use Rattle.std.proofs.Common.{get_or-set_other, ◌-◌, take, drop}
 use Rattle.std.specs.Prelude.{slice_get}
-use Rattle.std.proofs.Common.{◌-◌, take, drop}
 use Rattle.std.proofs.lemmas.Bool.{and_parts, eqb-true, eqb-false, eq-eqb, ne_eqb, false≢true}
 use Rattle.std.proofs.lemmas.Option.{get_or_from_slice_get, slice_get-get_or, slice_get_within}
 use Rattle.std.proofs.Math.Nat.{mod-lt}
 use Rattle.std.proofs.lemmas.List.{length-set, take_rest}
-use Rattle.star_match.specs.Star.{star, is_star, Matches, empty, byte_first, star_last, star_before}
+use Rattle.star_match.specs.Star.{star, is_star, Matches, empty, byte_first, star_last, star_before, star_matches}
 use Rattle.star_match.specs.Pairs.{has_pair, pair_place, HasPlaces, IsNeed, AreNeeds}
 use Rattle.star_match.specs.declared.pairs.TheConstants.{NO_PAIR}
-use Rattle.star_match.specs.Star.{star_matches}
 use Rattle.star_match.specs.declared.pairs.Needs.{Needs}
 use Rattle.star_match.proofs.Stars.{byte_first_of}
 use Rattle.star_match.proofs.Computed.{finds}
@@ -22,7 +20,7 @@ pub pair_cases : (a b x y : ℕ) (rest : List ℕ) → has_pair a b (x ∷ y ∷
     → ((x ≡ a) × (y ≡ b)) ⊎ (has_pair a b (y ∷ rest) ≡ true)
 pair_cases a b x y rest has =
     elim ((x == a) && (y == b)) as (λ t. ((x == a) && (y == b)) ≡ t
-        → ((x ≡ a) × (y ≡ b)) ⊎ (has_pair a b (y ∷ rest) ≡ true)) [
+    → ((x ≡ a) × (y ≡ b)) ⊎ (has_pair a b (y ∷ rest) ≡ true)) [
       | true ↦ λ here.
           let both = and_parts (x == a) (y == b) here in inl (eqb-true x a both.0, eqb-true y b both.1)
       | false ↦ λ other. inr (rw other at has)
@@ -64,10 +62,10 @@ get_set : (places : List Bool) (i j : ℕ) → i < length places → slice_get p
 get_set places i j within is =
     let below : j < length (set places i true) = omega (arith, length-set places i true, slice_get_within places j true is) in
     slice_get-get_or (set places i true) j false below ∙ ap Some (
-      elim (j == i) as (λ t. (j == i) ≡ t → get_or (set places i true) j false ≡ true) [
-        | true ↦ λ e. rw (eqb-true j i e) (get_or-set_same places i true false within)
-        | false ↦ λ e. get_or-set_other places i j true false (eqb-false j i e) ∙ get_or_from_slice_get places j true false is
-      ] refl
+    elim (j == i) as (λ t. (j == i) ≡ t → get_or (set places i true) j false ≡ true) [
+      | true ↦ λ e. rw (eqb-true j i e) (get_or-set_same places i true false within)
+      | false ↦ λ e. get_or-set_other places i j true false (eqb-false j i e) ∙ get_or_from_slice_get places j true false is
+    ] refl
     )
 
 set_here : (places : List Bool) (i : ℕ) → i < length places → slice_get (set places i true) i ≡ Some true

@@ -106,7 +106,7 @@ impl Needs {
 #[derive(Drop)]
 pub struct NotedText<'a> {
     text: &'a [u8],
-    places: [bool; 513],
+    places: [bool; NO_PAIR as usize + 1],
 }
 
 impl<'a> Model for NotedText<'a> {
@@ -125,7 +125,7 @@ impl<'a> NotedText<'a> {
     pub fn new(text: &'a [u8]) -> NotedText<'a>
         ensures { result ≡ text.now }
     {
-        let mut places = [false; 513];
+        let mut places = [false; NO_PAIR as usize + 1];
         places[NO_PAIR as usize] = true;
         let mut rest = text;
         while let [byte, tail @ ..] = rest {
