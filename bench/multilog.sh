@@ -114,6 +114,74 @@ row 'one line' 0 line '1 1 99999 10' ./log ./log "$sizes" ./log 'n10 s99999 ./lo
 row 'lines of 50, ./log' 0 short '1 1 98000 10' ./log ./log "$sizes" ./log 'n10 s99999 ./log'
 row 'lines of 50, t ./log' 0 short '50 76 98040 10' 't ./log' 't ./log' "$sizes" '-t ./log' 'n10 s99999 t ./log'
 
+# Cells: a script of 1, 8, 32 or 128 patterns in mixed forms after `-*`, over lines of 50, 92 or 2,000 bytes. None of the lines
+# match, one in ten, or all: the pattern in the middle. s6 is not run here: its regular expressions take minutes a cell.
+# cell_lines LENGTH RATE: a line in RATE matches, or none if RATE is 0
+cell_lines() {
+  awk -v length_of="$1" -v rate="$2" 'BEGIN {
+    srand(7)
+    count = split("request served worker status timeout accepted from cache index page user session opened closed sent bytes " \
+      "reply queue length upstream client config reload loaded", words, " ")
+    for (i = 0; i < 2000; i++) {
+      line = sprintf("2026-11-26 14:%02d:%02d.%03d %s app[%d]: ", int(i / 60), i % 60, int(rand() * 1000),
+        rate && i % rate == 0 ? "FATAL" : i % 4 ? "INFO" : "WARN", 1000 + int(rand() * 9000))
+      while (length(line) < length_of) line = line words[1 + int(rand() * count)] " " int(rand() * 1000) " "
+      print substr(line, 1, length_of - 2) "."
+    }
+  }' >cell_block
+  while cat cell_block; do :; done 2>/dev/null | head -c "${megabytes}000000"
+}
+# cell_patterns COUNT: the patterns, one a line
+cell_patterns() {
+  awk -v count="$1" 'BEGIN {
+    last = split("fatal error panic refused failed denied crash full lost dropped expired invalid missing aborted broken " \
+      "corrupt", words, " ")
+    split("+*%s:*|+* *]: %s: *|+2025-%s *|+*%s|+* * %s *|+*/%s*|+*%s=*;*|+*: %s *", forms, "|")
+    print "-*"
+    for (i = 0; i < count; i++) {
+      word = words[1 + i % last] (i < last ? "" : int(i / last))
+      if (i == int(count / 2)) print "+* * FATAL *"
+      else printf forms[1 + (i + int(i / last)) % 8] "\n", word
+    }
+  }'
+}
+# cell COUNT LENGTH MATCHES
+cell() {
+  local name="$1 patterns, lines of $2, $3" input=$2 turn at time memory best=(0 0 0) words=()
+  [[ $name == *"$wanted"* ]] || return 0
+  mapfile -t words < <(cell_patterns "$1")
+  local config
+  config=$sizes$(config_of "${words[@]}")
+  for turn in 1 2 3 4 5; do
+    for at in 0 1 2; do
+      case $at in
+      0) set -- "$program" multilog "${words[@]}" ./log ;;
+      1) set -- multilog "${words[@]}" ./log ;;
+      2) set -- svlogd ./log ;;
+      esac
+      command -v "$1" >/dev/null || continue
+      read -r time memory < <(once 0 "cell_$input" "$config" "$@") || continue
+      if [ "${best[at]}" = 0 ] || [ "$time" -lt "${best[at]}" ]; then best[at]=$time; fi
+    done
+  done
+  awk -v name="$name" -v all="${best[*]}" 'BEGIN {
+    split(all, t, " ")
+    for (i = 2; i <= 3; i++) if (t[i] > 0 && (fastest == 0 || t[i] < fastest)) fastest = t[i]
+    printf "| %s | %.1f | %.1f | %.1f | %.1f |\n", name, t[1] / 1e6, t[2] / 1e6, t[3] / 1e6, fastest / t[1]
+  }'
+}
+if [[ "patterns, lines of" == *"$wanted"* || $wanted == *"patterns, lines of"* ]]; then
+  echo
+  echo "| patterns over $megabytes MB | dtools, ms | daemontools | runit | fastest peer / dtools |"
+  echo '|---|---|---|---|---|'
+  for length in 50 92 2000; do
+    for matches in 'none match:0' 'one in ten matches:10' 'all match:1'; do
+      cell_lines "$length" "${matches#*:}" >"cell_$length" || true
+      for count in 1 8 32 128; do cell "$count" "$length" "${matches%:*}"; done
+    done
+  done
+fi
+
 # One line from a pipe to `current`, each once the program rests: the median of 1,000 lines, the best of five.
 [[ pipe == *"$wanted"* ]] || exit 0
 echo

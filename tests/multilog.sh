@@ -105,6 +105,16 @@ for row in '||a' 'a*b|axxb|abb' 'a*b|ab|a' '*ab*|xab|aab' '* fatal: *|log fatal:
   is "pattern '$pattern'" "$matched|" "$(tr '\n' '|' <chosen/current)"
 done
 
+# The same with so many patterns that the pairs of a line are noted, and with two of these in the same place of the table
+# (`ad` and `qd`), a byte that is no letter, and a line too short for a pair.
+mapfile -t many < <(printf -- '+%s\n' '*fatal:*' 'ad*' '* * lost *' 'é*' 'x' '*=*;*' '*]: full' '?' 'yz' 'zy')
+printf '%s\n' 'log fatal: 1' 'log fata: l' 'ad' 'qd' 'a b lost c' 'a lost c' é x xx 'a=b;c' 'a=b' '[1]: full' \
+  '[1]: fully' yz zy yzy >in
+ended 'many patterns' 0 '' '-*' "${many[@]}" ./several
+is 'many patterns' 'log fatal: 1|ad|a b lost c|é|x|a=b;c|[1]: full|yz|zy|' "$(tr '\n' '|' <several/current)"
+ended 'many patterns, and the last one decides' 0 '' '-*' "${many[@]}" '-x*' '-a*' '+ad' ./decided
+is 'many patterns, and the last one decides' 'log fatal: 1|ad|é|[1]: full|yz|zy|' "$(tr '\n' '|' <decided/current)"
+
 # The last pattern before an action that matches decides.
 printf 'yyy\nyxy\n' >in
 ended 'choices' 0 yxy ./choice1 '-*' ./choice2 '+*x*' ./choice3 e =choice4

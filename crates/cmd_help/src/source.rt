@@ -4,4 +4,4 @@
 pub(crate) const KIT: &str = "rattle-kit-13f logic dac8208d650f15bf";
 
 /// The sum of its sources, as packaging/source-sum says it.
-pub(crate) const SOURCE: &str = "518f4eac4d8ba6317fc1cd9a5f7881b1ce6fc773b416631a05918962286059a9";
+pub(crate) const SOURCE: &str = "e4c9036e95f57275ebe9f8b2f5aa67af7444ce1d24a2dfff49170aed1ad5cda5";

@@ -7,7 +7,7 @@ ghost use Rattle.mlog_script.specs.Action.{act, HasNoOutput};
 
 use crate::fault::ScriptFaultKind;
 use crate::word::{Said, read_word};
-use star_match::Pattern;
+use star_match::{NotedText, Pattern};
 use std::alloc::{Allocator, Global};
 
 /// What a word asks for.
@@ -49,6 +49,17 @@ impl<A: Allocator + Clone> Action<A> {
         match self {
             Action::Select(pattern) if pattern.matches(front) => Some(true),
             Action::Deselect(pattern) if pattern.matches(front) => Some(false),
+            _ => None,
+        }
+    }
+
+    /// Returns the same for a front whose pairs are noted.
+    pub(crate) fn decision_noted(&self, front: &NotedText<'_>) -> Option<bool>
+        ensures { result ≡ decision front.now (act self.now) }
+    {
+        match self {
+            Action::Select(pattern) if pattern.matches_noted(front) => Some(true),
+            Action::Deselect(pattern) if pattern.matches_noted(front) => Some(false),
             _ => None,
         }
     }

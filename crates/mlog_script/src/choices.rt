@@ -7,8 +7,12 @@ ghost use Rattle.mlog_script.specs.Action.{act};
 
 use crate::action::Action;
 use crate::script::Script;
+use star_match::NotedText;
 use std::alloc::{AllocError, Allocator, Global};
 use std::marker::Model;
+
+/// How many bytes of a front are noted in about the time that a pattern takes.
+const BYTES_A_TRY: usize = 8;
 
 /// The alerts, logs and status files of a script at which a line is selected. Contracts see a list of flags for each
 /// kind.
@@ -149,7 +153,7 @@ impl<A: Allocator + Clone> Marks<A> {
 
 /// Returns whether a line with this front is selected after the actions. The last action with a pattern that matches
 /// decides; if there is none, it is as before the actions. The actions are tried from the last one on, up to the first
-/// that decides.
+/// that decides. The front's pairs are noted if that pays for the actions that are left.
 fn is_chosen_behind<B: Allocator + Clone>(actions: &[Action<B>], front: &[u8], before: bool) -> bool
     ensures { result ≡ unwrap_or (last_given (decision front.now) (map act actions.now)) before }
 {
@@ -158,7 +162,33 @@ fn is_chosen_behind<B: Allocator + Clone>(actions: &[Action<B>], front: &[u8], b
         if let Some(chosen) = last.decision(front) {
             return chosen;
         }
+        if pays(earlier.len(), front.len()) {
+            return is_chosen_noted(earlier, &NotedText::new(front), before);
+        }
         rest = earlier;
+    }
+    before
+}
+
+/// Returns whether it is faster to note the pairs of a front of this length before this many actions are tried.
+fn pays(actions: usize, len: usize) -> bool {
+    actions > len / BYTES_A_TRY
+}
+
+/// Returns the same as [`is_chosen_behind`] for a front whose pairs are noted.
+fn is_chosen_noted<B: Allocator + Clone>(
+    actions: &[Action<B>],
+    front: &NotedText<'_>,
+    before: bool,
+) -> bool
+    ensures { result ≡ unwrap_or (last_given (decision front.now) (map act actions.now)) before }
+{
+    let mut rest = actions;
+    while let [others @ .., last] = rest {
+        if let Some(chosen) = last.decision_noted(front) {
+            return chosen;
+        }
+        rest = others;
     }
     before
 }

@@ -20,7 +20,7 @@ row_of (x ∷ y ∷ rest) adjacent =
           let row = row_of (y ∷ rest) (rw later at adjacent) in (x ∷ row.0, row.1, ap (λ (t : List ℕ). x ∷ t) row.2)
     ] refl
 
-or_later : (a b : Bool) → b ≡ true → (a || b) ≡ true
+pub or_later : (a b : Bool) → b ≡ true → (a || b) ≡ true
 or_later true b is = refl
 or_later false b is = is
 

@@ -5,3 +5,4 @@ pub mod Computed
 pub mod Ends
 pub mod Cuts
 pub mod Words
+pub mod HasPairs

@@ -4,6 +4,7 @@ use Rattle.std.specs.Prelude.{◌≡◌, ◌↔◌, ⊤, ℕ, true, false, List,
 use Rattle.std.specs.Bool.{MatchBool}
 use Rattle.std.specs.List.{concat}
 use Rattle.star_match.specs.Star.{star, is_star, IsWithout, Matches, has_adjacent_stars, star_matches}
+use Rattle.star_match.specs.Pairs.{has_pair}
 
 -- A star at the end takes any bytes. A star before c takes any bytes without c.
 abbrev pub StarTakes : List ℕ → List ℕ → Type 0
@@ -62,3 +63,8 @@ AdjacentStarsStand = (pattern : List ℕ)
 abbrev pub ComputesMatches : Type 0
 ComputesMatches = (pattern text : List ℕ) → has_adjacent_stars pattern ≡ false
     → (star_matches pattern text ≡ true) ↔ Matches pattern text
+
+-- A text that a pattern matches has each pair of adjacent bytes of the pattern, if neither byte is a star.
+abbrev pub PairsStand : Type 0
+PairsStand = (a b : ℕ) (pattern text : List ℕ) → is_star a ≡ false → is_star b ≡ false → has_pair a b pattern ≡ true
+    → Matches pattern text → has_pair a b text ≡ true

@@ -1,2 +1,3 @@
 pub mod Star
+pub mod Pairs
 pub mod Laws

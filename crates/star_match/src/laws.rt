@@ -1,7 +1,7 @@
 //! What a match means, as facts about all patterns and texts. The functions do nothing: each contract is a law.
 ghost use Rattle.star_match.specs.Laws.{MatchesConcatenations, HasOneCut, WordMatchesItself, StarMatchesAll};
 ghost use Rattle.star_match.specs.Laws.{WordAndStarMatchFront, WordStandsAtFirst, AdjacentStarsStand};
-ghost use Rattle.star_match.specs.Laws.{ComputesMatches};
+ghost use Rattle.star_match.specs.Laws.{ComputesMatches, PairsStand};
 
 /// States that a pattern matches exactly the concatenations of what its bytes take, in the same order. A star at the
 /// end takes any bytes, a star before c takes any bytes without c, and each other byte takes itself. The multilog page
@@ -44,4 +44,9 @@ pub fn adjacent_stars_stand()
 /// States that the computed result `star_matches` is the relation `Matches`, if no two stars are adjacent.
 pub fn the_answer_is_computed()
     ensures { ComputesMatches }
+{}
+
+/// States that a text that a pattern matches has each pair of adjacent bytes of the pattern that has no star.
+pub fn pairs_stand()
+    ensures { PairsStand }
 {}

@@ -13,11 +13,14 @@
 //! Therefore one scan of the text decides, with no memory and without going back. Patterns and texts are any bytes:
 //! NUL, newlines and bytes from 128 on are like all others. Two adjacent stars are refused.
 //!
-//! [`Pattern::read`] reads a pattern, and [`Pattern::matches`] matches it with a text. [`laws`] says what a match
-//! means.
+//! [`Pattern::read`] reads a pattern, and [`Pattern::matches`] matches it with a text. If a text is matched with many
+//! patterns, [`NotedText`] reads it once, and [`Pattern::matches_noted`] refuses most patterns without another scan.
+//! [`laws`] says what a match means.
 #![tactic(auto)]
 
 pub mod laws;
+mod pairs;
 mod pattern;
 
+pub use pairs::NotedText;
 pub use pattern::{Pattern, PatternFault, has_adjacent_stars};

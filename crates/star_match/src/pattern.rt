@@ -2,6 +2,7 @@
 ghost use Rattle.std.specs.Prelude.{◌≡◌, ◌<◌, ◌↔◌, length, true, false, IsTrue, IfOk, IsErrOf};
 ghost use Rattle.star_match.specs.Star.{Matches, from_first, has_adjacent_stars, star_matches};
 
+use crate::pairs::{Needs, NotedText};
 use memchr::memchr;
 use std::alloc::{Allocator, Global};
 use std::marker::Model;
@@ -11,17 +12,20 @@ use thiserror::Error;
 #[derive(Debug, Drop)]
 pub struct Pattern<A: Allocator + Clone = Global> {
     bytes: Vec<u8, A>,
+    needs: Needs,
 }
 
 impl<A: Allocator + Clone> Model for Pattern<A> {
     ghost use Rattle.std.specs.Prelude.{List, ℕ, ◌≡◌, false};
     ghost use Rattle.star_match.specs.Star.{has_adjacent_stars};
+    ghost use Rattle.star_match.specs.Pairs.{AreNeeds};
 
     ghost Value = { List ℕ };
 
     ghost view = { λ pattern. pattern.bytes.items };
 
-    ghost invariant = { λ pattern. has_adjacent_stars pattern.bytes.items ≡ false };
+    ghost invariant = { λ pattern. (has_adjacent_stars pattern.bytes.items ≡ false)
+        × AreNeeds pattern.needs pattern.bytes.items };
 }
 
 /// Why there is no pattern.
@@ -52,7 +56,8 @@ impl<A: Allocator + Clone> Pattern<A> {
         let mut own = Vec::new(alloc);
         own.extend_from_slice(bytes)
             .map_err(|_| PatternFault::OutOfMemory)?;
-        Ok(Pattern { bytes: own })
+        let needs = Needs::of(&own);
+        Ok(Pattern { bytes: own, needs })
     }
 
     /// Returns whether the pattern matches the whole text. It takes at most one scan of the text, and no memory. The
@@ -63,6 +68,15 @@ impl<A: Allocator + Clone> Pattern<A> {
         ensures answer { result ≡ star_matches self.now text.now }
     {
         has_end(&self.bytes, text) && is_match(&self.bytes, text)
+    }
+
+    /// Returns the same for a text whose pairs are noted. Most texts that do not match lack one of the pattern's rarest
+    /// pairs, and are not scanned.
+    pub fn matches_noted(&self, text: &NotedText<'_>) -> bool
+        ensures relation { IsTrue result ↔ Matches self.now text.now }
+        ensures answer { result ≡ star_matches self.now text.now }
+    {
+        text.has_needs(&self.needs) && self.matches(text.text())
     }
 }
 

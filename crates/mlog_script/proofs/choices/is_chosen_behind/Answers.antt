@@ -1,4 +1,4 @@
-use Rattle.std.proofs.Common.{◌-◌, ◌∙◌, sym, ap, map, take, length, Option, Bool}
+use Rattle.std.proofs.Common.{◌-◌, ◌∙◌, sym, ap, map, take, length, Option, Bool, List, ℕ}
 use Rattle.std.specs.Prelude.{unwrap_or}
 use Rattle.mlog_script.specs.Placed.{last_given}
 use Rattle.mlog_script.specs.Selection.{decision}
@@ -22,4 +22,15 @@ loop-rest-preserved g c =
     c.args.before in
     sym (chosen_back act c.args.front.now rest c.last-item.result c.args.before c.in-len1-up.len_at_least c.last-item.is
     ∙ ap (λ (o : Option Bool). unwrap_or o earlier) (sym c.decision.ensures ∙ c.in_default-decision.is))
+    ∙ c.loop-rest.invariant
+
+pub returns-then-pays : goal.returns-then-pays
+returns-then-pays g c =
+    let rest = c.loop-rest.rest.now in
+    let earlier : List ℕ → Bool = λ front. unwrap_or (last_given (decision front)
+    (map act (take (length rest - 1) rest))) c.args.before in
+    c.is_chosen_noted.ensures ∙ ap earlier c.new.ensures
+    ∙ sym (chosen_back act c.args.front.now rest c.last-item.result c.args.before c.in-len1-up.len_at_least c.last-item.is
+    ∙ ap (λ (o : Option Bool). unwrap_or o (earlier c.args.front.now)) (sym c.decision.ensures
+    ∙ c.in_default-decision.is))
     ∙ c.loop-rest.invariant
