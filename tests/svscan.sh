@@ -504,7 +504,7 @@ echo $$ >>finishes
 exec sleep 1000
 END
   done
-  echo 1 >d/short/timeout-finish
+  echo 3 >d/short/timeout-finish
   echo soon >d/bad/timeout-finish
   start reported d
   soon 'up' 10 all_are is_settled d/short d/bad
@@ -512,7 +512,7 @@ END
   soon 'both finish' 5 all_are is_finishing d/short d/bad
   sleep 0.6
   so 'it has its time' is_finishing d/short
-  soon 'it starts again after its time' 6 has_lines 2 d/short/starts
+  soon 'it starts again after its time' 9 has_lines 2 d/short/starts
   is 'and is gone' '' "$(finishing d/short)"
   is 'a time that is no number' 'svscan: bad: timeout-finish is no number of seconds: 5 seconds count' "$(cat reported)"
   so 'does not count' is_finishing d/bad

@@ -280,6 +280,13 @@ said 'an end by a signal, and no trace' 0 's is down since {50}, normally up. Pr
 status 90 4711 0 $up 0 3
 ended_so '4711 status 3' 91
 said 'an end after the record' 0 's is up since {90}, process 4711. Process 4711 ended with status 3.'
+: >s/finish
+said 'and it has a finish' 0 's is up since {90}, process 4711. Process 4711 ended with status 3. Its finish runs.'
+ended_so '4712 status 3' 91
+said 'an end of another process' 0 's is up since {90}, process 4711. Process 4712 ended with status 3.'
+ended_so '4711 status 3' 89
+said 'an end before the start' 0 's is up since {90}, process 4711. Before it process 4711 ended with status 3.'
+rm s/finish
 rm s/supervise/exit
 
 # Starts: those of the last 60 seconds, 5 or more of which are flapping.

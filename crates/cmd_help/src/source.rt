@@ -4,4 +4,4 @@
 pub(crate) const KIT: &str = "rattle-kit-13f logic dac8208d650f15bf";
 
 /// The sum of its sources, as packaging/source-sum says it.
-pub(crate) const SOURCE: &str = "e4c9036e95f57275ebe9f8b2f5aa67af7444ce1d24a2dfff49170aed1ad5cda5";
+pub(crate) const SOURCE: &str = "10c6c8d3effa7036db02214b66d3afce34c751822bc60b0dd343e00dd68e24a8";

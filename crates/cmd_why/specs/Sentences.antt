@@ -151,19 +151,20 @@ is_before status end = is_running status && nat_le (nanos (time_of_end end)) (na
 abbrev pub end_opening : (before : Bool) → List ℕ
 end_opening before = if before then codes " Before it process " else codes " Process "
 
--- Whether the `finish` of a service runs: its record has a process, and only the file `exit` says that this process ended
--- after it began. The death counts after `finish`.
-abbrev pub is_finishing : Status → LastEnd → Bool
-is_finishing status (Recorded exit) =
-    is_running status && ((exit.pid == status.pid) && not (is_before status (Recorded exit)))
-is_finishing status (Traced ended ending) = false
+-- Whether the `finish` of a service runs: there is one, the record has a process, and only the file `exit` says that this
+-- process ended after it began. The death counts after `finish`.
+abbrev pub is_finishing : Status → LastEnd → (has_finish : Bool) → Bool
+is_finishing status (Recorded exit) has_finish =
+    has_finish && (is_running status && ((exit.pid == status.pid) && not (is_before status (Recorded exit))))
+is_finishing status (Traced ended ending) has_finish = false
 
-abbrev pub finish_sentence : Status → LastEnd → List ℕ
-finish_sentence status end = note (is_finishing status end) (codes " Its finish runs.")
+abbrev pub finish_sentence : Status → Option LastEnd → (has_finish : Bool) → List ℕ
+finish_sentence status (Some end) has_finish = note (is_finishing status end has_finish) (codes " Its finish runs.")
+finish_sentence status None has_finish = []
 
--- the sentence about the last end, and whether `finish` runs after it
+-- the sentence about the last end
 abbrev pub end_sentence : Status → Option LastEnd → List ℕ
-end_sentence status (Some end) = end_opening (is_before status end) ++ last_words end ++ finish_sentence status end
+end_sentence status (Some end) = end_opening (is_before status end) ++ last_words end
 end_sentence status None = []
 
 -- why a service is down: the last of u, d and o after the start of the process that ended
@@ -232,7 +233,7 @@ starts_sentence (Some facts) = count_sentence facts.starts facts.unasked (has_al
 
 -- the line about a service in this folder, without a newline
 abbrev pub why_line : (folder : List ℕ) → Loaded → (normally_up : Bool) → Option Facts → Option LastEnd
-    → (time : List ℕ) → (now : Tai64n) → List ℕ
-why_line folder loaded normally_up facts last time now =
+    → (has_finish : Bool) → (time : List ℕ) → (now : Tai64n) → List ℕ
+why_line folder loaded normally_up facts last has_finish time now =
     folder ++ state_text loaded normally_up time now ++ past_sentences (status_in loaded) facts last
-    ++ starts_sentence facts
+    ++ finish_sentence (status_in loaded) last has_finish ++ starts_sentence facts

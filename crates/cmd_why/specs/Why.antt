@@ -84,7 +84,8 @@ found_line folder (found.Absent absence) = folder ++ absence_words absence
 found_line folder found.Unread = folder ++ codes " is supervised, but its status can't be read."
 found_line folder (found.Bad cause) =
     folder ++ codes " is supervised, but its status is no record: " ++ fault_name cause ++ codes "."
-found_line folder (found.Standing s) = why_line folder s.loaded s.normally_up s.facts s.last s.time.bytes s.now
+found_line folder (found.Standing s) =
+    why_line folder s.loaded s.normally_up s.facts s.last s.has_finish s.time.bytes s.now
 
 -- what is drawn about it
 abbrev pub drawing_in : Found → Drawing
@@ -193,6 +194,7 @@ pub record FindsStanding (k : Knowledge) (timeline : Bool) (folder : List ℕ) (
   pub exit : Option Exit
   pub exit_is : IsExitOf (k.exits folder) exit
   pub last : s.last ≡ last_end s.facts exit
+  pub finish : IsKnown (k.finishes folder) s.has_finish
   pub time : IsKnown (k.times (status_in loaded).label) s.time.bytes
   pub drawing : IsDrawing k.times timeline content (status_in loaded) s.now s.drawing
 

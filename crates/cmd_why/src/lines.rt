@@ -72,6 +72,8 @@ pub struct Standing {
     pub facts: Option<Facts>,
     /// The last end of one of its processes, from its trace and its file `exit`.
     pub last: Option<LastEnd>,
+    /// Whether its folder has a file `finish`.
+    pub has_finish: bool,
     /// The local time of the record's label.
     pub time: LocalTime,
     /// When it was looked at.
@@ -172,6 +174,7 @@ pub fn found_line<A: Allocator>(
             standing.normally_up,
             standing.facts.as_ref(),
             standing.last.as_ref(),
+            standing.has_finish,
             standing.time.as_str(),
             &standing.now,
         ),

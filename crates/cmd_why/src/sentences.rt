@@ -51,7 +51,6 @@ use tai_status::{Label, Loaded, Phase, View, Want};
 ///
 /// - `Process N ran S s and ended.` if the trace has it. `Process N ended.` if only the file `exit` has it.
 /// - `Before it process N ..` if the service is up, and the end is no later than the record.
-/// - `Its finish runs.` after that, if the service is up, and only the file `exit` has the end of its process.
 ///
 /// It ended ` with status S` or ` by SIGNAL` if the file `exit` says so about that process. It ended ` after SIGNAL
 /// (C)` if C is the last control byte with a signal between its start and its death, and ` without a control byte` if
@@ -62,6 +61,8 @@ use tai_status::{Label, Loaded, Phase, View, Want};
 /// - `Its last start failed.` if no start is known after the last one that failed.
 /// - `It has not run since supervise began.` if nothing was folded, there is no process before the entries, and no
 ///   start among them.
+///
+/// - `Its finish runs.` if the service is up and has a `finish`, and only the file `exit` has the end of its process.
 ///
 /// Starts come last:
 ///
@@ -79,16 +80,19 @@ pub fn why_line<A: Allocator>(
     normally_up: bool,
     facts: Option<&Facts>,
     last: Option<&LastEnd>,
+    has_finish: bool,
     time: &str,
     now: &Label,
 ) -> Result<String<A>, AllocError>
     ensures { IfOk result (λ line. string_bytes line
         ≡ why_line dir.now loaded.now normally_up (option_copied facts.entry) (option_copied last.entry)
-        time.now now.now) }
+        has_finish time.now now.now) }
 {
+    let view = loaded.view();
     let mut line = String::from_str(alloc, dir)?;
     push_state(&mut line, loaded, normally_up, time, now)?;
-    push_past(&mut line, &loaded.view(), facts, last)?;
+    push_past(&mut line, &view, facts, last)?;
+    line.push_str(finish_sentence(&view, last, has_finish))?;
     push_traced_starts(&mut line, facts)?;
     Ok(line)
 }
@@ -460,27 +464,26 @@ fn end_opening(before: bool) -> &'static str
     }
 }
 
-/// Returns whether the `finish` of a service runs: its record has a process, and only the file `exit` says that this
-/// process ended after it began.
-fn is_finishing(status: &View, end: &LastEnd) -> bool
-    ensures { result ≡ is_finishing status.now end.now }
+/// Returns whether the `finish` of a service runs: there is one, the record has a process, and only the file `exit` says
+/// that this process ended after it began.
+fn is_finishing(status: &View, end: &LastEnd, has_finish: bool) -> bool
+    ensures { result ≡ is_finishing status.now end.now has_finish }
 {
     match end {
         LastEnd::Recorded(exit) => {
-            is_running(status) && exit.pid == status.pid && !is_before(status, end)
+            has_finish && is_running(status) && exit.pid == status.pid && !is_before(status, end)
         }
         LastEnd::Traced(..) => false,
     }
 }
 
 /// Returns whether the `finish` of a service runs, in a sentence.
-fn finish_sentence(status: &View, end: &LastEnd) -> &'static str
-    ensures { result.now ≡ finish_sentence status.now end.now }
+fn finish_sentence(status: &View, last: Option<&LastEnd>, has_finish: bool) -> &'static str
+    ensures { result.now ≡ finish_sentence status.now (option_copied last.entry) has_finish }
 {
-    if is_finishing(status, end) {
-        " Its finish runs."
-    } else {
-        ""
+    match last {
+        Some(end) if is_finishing(status, end, has_finish) => " Its finish runs.",
+        _ => "",
     }
 }
 
@@ -495,8 +498,7 @@ fn push_end<A: Allocator>(
     match last {
         Some(end) => {
             out.push_str(end_opening(is_before(status, end)))?;
-            push_last_words(out, end)?;
-            out.push_str(finish_sentence(status, end))
+            push_last_words(out, end)
         }
         None => Ok(()),
     }

@@ -63,4 +63,11 @@ impl ServiceFiles for HostRuntime {
             Err(fault) => Some(fault.kind()),
         }
     }
+
+    fn has_finish(&self, folder: &str) -> bool {
+        match path_in(folder, "/finish") {
+            Ok(path) => fs::metadata(self, path.as_str()).is_ok(),
+            Err(_) => false,
+        }
+    }
 }

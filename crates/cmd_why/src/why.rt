@@ -166,6 +166,7 @@ fn stand<A: Allocator + Clone, K: Evidence, C: TimeSource>(
         normally_up,
         facts,
         last,
+        has_finish: sources.has_finish(folder),
         time: sources.local_time(&status.label),
         now,
         drawing,

@@ -1,6 +1,6 @@
 //! The place of a service: the process that was started last, or that one is about to be started, and what is wanted.
 //! While the service's `finish` runs, the place has this process.
-ghost use Rattle.std.specs.Prelude.{◌≡◌, ◌<◌, ◌^◌, ◌++◌, ◌∷◌, ℕ, List, IsSomeAnd, codes, decimal, length, position, ◌==◌};
+ghost use Rattle.std.specs.Prelude.{◌≡◌, ◌<◌, ◌^◌, ◌++◌, ◌∷◌, ℕ, Bool, List, IsSomeAnd, codes, decimal, length, position, ◌==◌};
 ghost use Rattle.std.specs.Prelude.{Some, IfSome};
 ghost use Rattle.svc_left.specs.Place.{AreTwo, IsPlace, first_line, last_number, place_line};
 ghost use Rattle.tai_status.specs.declared.record.Want.{Want};

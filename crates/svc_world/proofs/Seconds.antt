@@ -10,7 +10,7 @@ ends : (front : List ℕ) → avoids 10 (front ++ 10 ∷ []) ≡ false
 ends [] = refl
 ends (x ∷ xs) = grind (arith, ends xs)
 
--- A text that ends with a newline is no number.
+-- A number has no newline at its end.
 pub no_newline : (number : ℕ) (front : List ℕ) → decimal number ≡ front ++ codes "\n" → ⊥
 no_newline number front is =
     let free = avoids-solid 10 (decimal number) (omega arith) (decimal-solid number) in

@@ -134,13 +134,17 @@ fn open_folder<R: Files<File = File>>(runtime: &R, path: &str) -> io::Result<Fil
     fs::open(runtime, path)
 }
 
-/// Makes a folder that only its owner can use, if it does not exist. An existing folder keeps its mode and its owner.
+/// Makes a folder that only its owner can use, if it does not exist. An existing folder keeps its mode and its owner. A
+/// link to nothing is a fault, `NotFound`.
 fn make_private<R: Files<File = File>>(runtime: &R, path: &str) -> io::Result<()> {
     let mut how = DirBuilder::new();
     how.mode(FOLDER_MODE);
     match how.create(runtime, path) {
         Ok(()) => fs::set_permissions(runtime, path, Permissions::from_mode(FOLDER_MODE)),
-        Err(fault) if fault.kind() == ErrorKind::AlreadyExists => Ok(()),
+        // A link to nothing has that name, and is no folder.
+        Err(fault) if fault.kind() == ErrorKind::AlreadyExists => {
+            fs::metadata(runtime, path).map(drop)
+        }
         Err(fault) => Err(fault),
     }
 }

@@ -95,6 +95,9 @@ fn run_in_session(alloc: Global) -> Result<Command, AllocError>
     Ok(command)
 }
 
+/// What is said about a service whose `finish` can't be run, before the cause.
+const NO_FINISH: &str = "unable to run ./finish: ";
+
 /// What is said about a service that begins a session if there is no program for that.
 const NO_SETSID: &str = "unable to run setsid: No such file or directory";
 
@@ -346,7 +349,7 @@ where
     #[inline(never)]
     fn report_finish(&self, fault: &io::Error) {
         let cause = Cause::of(fault);
-        if let Ok(what) = format!(in self.alloc; "unable to run ./finish: {}", cause.words()) {
+        if let Ok(what) = format!(in self.alloc; "{NO_FINISH}{}", cause.words()) {
             self.report(what.as_str());
         }
     }
