@@ -194,7 +194,8 @@ up 0 $3
 seconds 0 $7
 ${4:+$(phases "$4")
 }wanted_up 0 $5
-paused 0 $6" s
+paused 0 $6
+finishing 0 0" s
 }
 chmod 755 s/supervise
 measured 'up' "${label}671200000075" 1 '' 1 0 S
@@ -221,7 +222,8 @@ some='supervised 0 1
 up 0 1
 seconds 0 S
 wanted_up 0 1
-paused 0 0'
+paused 0 0
+finishing 0 0'
 for row in '0 0' '7 6' '10 9' '18446744073709551615 18446744073709551615'; do
   printf '%s\n' "$row" >s/supervise/counts
   metrics "counts: $row" "$some
