@@ -4,4 +4,4 @@
 pub(crate) const KIT: &str = "rattle-kit-13f logic dac8208d650f15bf";
 
 /// The sum of its sources, as packaging/source-sum says it.
-pub(crate) const SOURCE: &str = "10c6c8d3effa7036db02214b66d3afce34c751822bc60b0dd343e00dd68e24a8";
+pub(crate) const SOURCE: &str = "dc5dd318f81c7fd1859054fd57d12316aa4359e23d036a44a135e6ac73e45570";

@@ -3,8 +3,8 @@ use Rattle.std.specs.Prelude.{ℕ, Bool, List, Option, None}
 use Rattle.std.specs.declared.io.ErrorKind.{ErrorKind}
 use Rattle.tai_status.specs.Label.{Tai64n}
 
--- What is known for the service in each folder: the bytes of its trace, the line that says how its last process ended,
--- why the folder can't be looked at, if it can't, and whether the folder has a file `finish`.
+-- What is known for the service in each folder: the bytes of its trace, and the line that says how its last process
+-- ended. Then why the folder can't be looked at, if it can't, and whether the folder has a file `finish`.
 pub record ServiceTexts : Type 0 where
   pub traces : List ℕ → Option (List ℕ)
   pub exits : List ℕ → Option (List ℕ)
