@@ -278,6 +278,7 @@ metrics 'metrics: all names' "$(
   for phase in starting settling up down resting gone; do each "phase[$phase]" $([ $phase = up ] && echo 1 || echo 0); done
   each wanted_up 1
   each paused 0
+  each finishing 0
   each starts_total
   for place in "${!names[@]}"; do echo "deaths_total $place $place"; done
 )" "${names[@]}"
