@@ -1,6 +1,6 @@
-"""svscan under random work: 20 services and 8 pairs under flow, random letters, kills of services, loggers and svscan, its own
+"""svscan under random work: 20 services, some of which have a finish, and 8 pairs under flow, random letters, kills of services, loggers and svscan, its own
 `q` and `x`, services that go and come, garbage on the sockets, SIGSTOP, a disk that fills, and a limit of descriptors that is
-reached and raised. Afterwards: never two copies of a service, each line in order and at most once, the losses within the bound
+reached and raised. Afterwards: never two copies of a service, none next to its finish, each line in order and at most once, the losses within the bound
 of each kill, `x` ends svscan in time, no zombie, and memory and descriptors are as at the start.
 
 soak.py PROGRAM [--seed N] [--seconds N], in an empty folder."""
@@ -26,6 +26,7 @@ random.seed(words.seed)
 checked, failed = 0, 0
 SERVICES = [f"s{number}" for number in range(20)]
 PAIRS = [f"f{number}" for number in range(8)]
+FINISHING = SERVICES[:5]
 PARTS = SERVICES + PAIRS + [name + "/log" for name in PAIRS]
 # The lines of a life have numbers of their own, so many at most.
 LIFE = 10_000_000
@@ -50,6 +51,18 @@ def living(name):
     return [pid for pid in dict.fromkeys(starts(name)[-40:]) if is_alive(pid) and runs_in(pid, "d/" + name) and not is_child_of(name, pid)]
 
 
+def finishing(name):
+    """The processes of the last finishes of a service that live. A number that came again in a start is none."""
+    noted = [int(line) for line in read("finishes/" + name).split()[-3:]]
+    return {pid for pid in noted if is_alive(pid) and runs_in(pid, "d/" + name)} - set(starts(name)[-40:])
+
+
+def runs_beside(name):
+    """Whether a process of a service runs next to its finish, which was there before and after the look at it."""
+    before = finishing(name)
+    return bool(before) and bool(living(name)) and bool(before & finishing(name))
+
+
 def is_child_of(name, pid):
     """Whether a process is no flow itself, but a child that one of this name has for a moment."""
     return name in PAIRS and read(f"/proc/{pid}/comm") != b"run\n"
@@ -63,6 +76,13 @@ def make(folder, run):
         file.write(f"#!/bin/sh\necho $$ >>{noted}\n{run}")
     os.chmod(made + "/run", 0o755)
     os.rename(made, folder)
+
+
+def add_finish(name):
+    with open(f"d/{name}/.finish", "w") as file:
+        file.write(f"#!/bin/sh\necho $$ >>{os.getcwd()}/finishes/{name}\nsleep 0.{random.randint(0, 4)}\n")
+    os.chmod(f"d/{name}/.finish", 0o755)
+    os.rename(f"d/{name}/.finish", f"d/{name}/finish")
 
 
 # A counter that goes on where the last life of the service ended, so that a line that comes twice shows. It is replaced as a
@@ -153,6 +173,8 @@ def kills_svscan():
 
 
 def leaves():
+    # A letter to a svscan that has just begun is lost.
+    until(10, lambda: is_served(".svscan"))
     svc("q", ".svscan")
     try:
         svscan.wait(20)
@@ -212,23 +234,29 @@ def all_up():
     return all(is_served(name) and len(living(name)) == 1 for name in PARTS)
 
 
-for folder in ("d", "starts", "flow"):
+for folder in ("d", "starts", "finishes", "flow"):
     os.mkdir(folder)
 for name in SERVICES:
     make("d/" + name, "exec sleep 1000\n")
+for name in FINISHING:
+    add_finish(name)
 for name in PAIRS:
     make("d/" + name, flow(name))
     make(f"d/{name}/log", f"exec {program} multilog s16777215 n1000 ./main\n")
 start()
 check("all are up", True, until(20, all_up))
 before = numbers()
-copies, looks, end = [], 0, time.monotonic() + words.seconds
+copies, beside, looks, end = [], [], 0, time.monotonic() + words.seconds
 while time.monotonic() < end:
     random.choices([work for work, _ in WORK], [weight for _, weight in WORK])[0]()
     time.sleep(random.uniform(0, 0.15))
     looks += 1
     copies += [f"{name}: {found}" for name, found in ((name, living(name)) for name in PARTS) if len(found) > 1]
+    beside += [name for name in FINISHING if runs_beside(name)]
 check("never two copies", [], copies[:5])
+check("none runs next to its finish", [], beside[:5])
+check("a finish ran", True, any(read("finishes/" + name) for name in FINISHING))
+until(30, lambda: all(is_served(name) for name in PARTS))
 svc("ucu", *PARTS)
 up = until(30, all_up)
 check("all are up again", [], [] if up else [(name, is_served(name), living(name)) for name in PARTS if len(living(name)) != 1][:5])
