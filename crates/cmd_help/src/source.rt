@@ -4,4 +4,4 @@
 pub(crate) const KIT: &str = "rattle-kit-13f logic dac8208d650f15bf";
 
 /// The sum of its sources, as packaging/source-sum says it.
-pub(crate) const SOURCE: &str = "dc5dd318f81c7fd1859054fd57d12316aa4359e23d036a44a135e6ac73e45570";
+pub(crate) const SOURCE: &str = "608c8d67455d2ee8133ee9184a945ed1842db80c46cb2224fefbf8cb89e789a8";

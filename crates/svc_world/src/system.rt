@@ -361,14 +361,14 @@ where
         }
     }
 
-    /// Makes a child by this function, and hands it to the reaper.
-    fn make_watched<F>(&mut self, make: F) -> io::Result<u32>
-    where
-        F: Fn(&SystemChildren<R>) -> io::Result<Child<SystemProcess>>,
-    {
+    /// Makes a child that runs the service, or its `finish` after this end, and hands it to the reaper.
+    fn make_watched(&mut self, ended: Option<&Exit>) -> io::Result<u32> {
         let death = Arc::new(self.alloc, OnceLock::new())?;
         let theirs = Arc::try_clone(&death)?;
-        let child = make(self)?;
+        let child = match ended {
+            Some(exit) => self.make_finish(exit)?,
+            None => self.make()?,
+        };
         let pid = child.id();
         let watched = WatchedChild {
             child,
@@ -388,7 +388,7 @@ where
     fn spawn(&mut self) -> Option<u32> {
         self.death = DeathSource::None;
         self.linger.begin(self.notifier.letters());
-        match self.make_watched(|children| children.make()) {
+        match self.make_watched(None) {
             Ok(pid) if pid > 0 => Some(pid),
             _ => None,
         }
@@ -401,7 +401,7 @@ where
     #[inline(never)]
     fn finish(&mut self, exit: &Exit) -> Option<u32> {
         self.report_time(self.folder.finish_time());
-        match self.make_watched(|children| children.make_finish(exit)) {
+        match self.make_watched(Some(exit)) {
             Ok(pid) if pid > 0 => Some(pid),
             Ok(_) => None,
             Err(fault) => {
