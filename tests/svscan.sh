@@ -521,6 +521,77 @@ END
   is 'once each' '1 1' "$(count d/short/finishes) $(count d/bad/finishes)"
 }
 
+# deaf FOLDER: makes a service that TERM does not end
+deaf() {
+  service "$1" <<'END'
+trap '' TERM
+echo $$ >>starts
+while :; do sleep 0.1; done
+END
+}
+# the bytes k in the kept trace of a service
+kills() { timeout 10 "$program" trace "$1/supervise/trace" 2>/dev/null | grep -c '^byte k\b'; }
+
+# A service that was asked to go and still runs gets k after the seconds in timeout-kill, once, and never without that file.
+timed_kill() {
+  local name first
+  for name in timed free bad never back; do deaf d/$name; done
+  echo 1 >d/timed/timeout-kill
+  echo soon >d/bad/timeout-kill
+  echo 0 >d/never/timeout-kill
+  echo 2 >d/back/timeout-kill
+  start reported d
+  soon 'up' 10 all_are is_settled d/timed d/free d/bad d/never d/back
+  first=$(process d/timed)
+  svc -d d/timed d/free d/bad d/never d/back
+  sleep 0.5
+  so 'it has its time' lives "$first"
+  svc -d d/timed
+  svc -u d/back
+  soon 'k ends it' 3 is_put_down d/timed
+  sleep 2
+  for name in free bad never back; do so "$name runs" is_up d/$name; done
+  is 'a text that is no number' 'svscan: bad: timeout-kill is no number of seconds: it does not count' "$(cat reported)"
+  svc -k d/free d/bad d/never
+  soon 'down' 5 all_are is_put_down d/free d/bad d/never
+  soon 'its trace has k once' 8 is_killed_once d/timed
+  is 'u took it back' 0 "$(kills d/back)"
+  # svscan's own end asks each service to go.
+  rm d/back/timeout-kill
+  echo 1 >d/back/timeout-kill
+  svc -x d/.svscan
+  soon 'svscan ends' 5 is_gone "$svscan"
+  is 'once' '1 1' "$(count d/back/starts) $(kills d/back)"
+  is 'nothing else was reported' 1 "$(wc -l <reported)"
+}
+is_killed_once() { [ "$(kills "$1")" = 1 ]; }
+
+# svscan is killed after a service was asked to go: the next one gives it its time, and then k.
+timed_kill_left() {
+  local first
+  deaf d/web
+  deaf d/other
+  echo 2 >d/web/timeout-kill
+  start_session reported d
+  soon 'up' 10 all_are is_settled d/web d/other
+  first=$(process d/web)
+  svc -d d/web
+  soon 'it is asked to go' 3 wants d d/web
+  kill -KILL "$svscan"
+  soon 'svscan is dead' 3 is_gone "$svscan"
+  sleep 2.5
+  so 'it runs without svscan' lives "$first"
+  start_session reported2 d
+  soon 'served' 10 all_are is_served d/web d/other
+  is 'it is the same process' "$first" "$(process d/web)"
+  sleep 1
+  so 'it has its time again' lives "$first"
+  soon 'k ends it' 4 is_put_down d/web
+  so 'the other one runs' is_settled d/other
+  is 'one start' 1 "$(count d/web/starts)"
+  is 'nothing was reported' '' "$(cat reported reported2)"
+}
+
 # svscan is killed while a finish runs: the next one starts nothing until it has ended, and ends it in its time.
 killed_finish() {
   local name first
@@ -2474,7 +2545,7 @@ play_all() {
   done
 }
 
-scenarios=(life modes_kept delegated exits endings finishes bounded_finish killed_finish no_run links stubborn killed_service killed_svscan killed_early unnamed starved unwritten new_boot other_user earlier_record elsewhere changes twice names silent
+scenarios=(life modes_kept delegated exits endings finishes bounded_finish timed_kill timed_kill_left killed_finish no_run links stubborn killed_service killed_svscan killed_early unnamed starved unwritten new_boot other_user earlier_record elsewhere changes twice names silent
   connections no_supervise unheard rounds untaken own refused last_words upgraded unread ordered first_process two_services child begins_anew shortage
   descriptors_reported unchanged resting full_disk full_put_down placeless held_locks held_pair many_bytes raised_limit
   odd_environment unreaped bounded_end no_folder folder_away apart)

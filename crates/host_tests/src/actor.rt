@@ -82,6 +82,10 @@ impl World for Actor {
 
     fn mend(&mut self) {}
 
+    fn kill_time(&mut self) -> Option<u64> {
+        None
+    }
+
     fn longest_rest(&self) -> Option<Duration> {
         None
     }

@@ -4,6 +4,7 @@ pub mod Causes
 pub mod Collecting
 pub mod Forgetting
 pub mod Going
+pub mod Killing
 pub mod Filters
 pub mod Looking
 pub mod Moving

@@ -4,6 +4,7 @@ pub mod Calls
 pub mod Ending
 pub mod Growth
 pub mod HostRun
+pub mod Kills
 pub mod Mails
 pub mod Outputs
 pub mod Parts

@@ -35,19 +35,27 @@ pub(crate) fn open_box<T: Copy + Drop>(
     Some((sender, receiver))
 }
 
-/// Opens the mailbox of a service. Returns the host's sender, one for outside, and the receiver.
-pub(crate) fn open_mailbox(
-    alloc: Global,
-    capacity: usize,
-) -> Option<(Sender<u8>, Sender<u8>, Receiver<u8>)>
+/// The ends of the mailbox of a service: the senders of the host, of the door and of the service's own timer, and the
+/// receiver.
+#[derive(Drop)]
+pub(crate) struct MailboxEnds {
+    inside: Sender<u8>,
+    outside: Sender<u8>,
+    timer: Sender<u8>,
+    receiver: Receiver<u8>,
+}
+
+/// Opens the mailbox of a service.
+pub(crate) fn open_mailbox(alloc: Global, capacity: usize) -> Option<MailboxEnds>
     requires { 0 < capacity }
-    ensures unposted { IfSome result (λ ends. posted ends.0 ≡ []) }
-    ensures untaken { IfSome result (λ ends. taken_by ends.2 ≡ []) }
-    ensures inside { IfSome result (λ ends. home ends.0 ≡ receiver_home ends.2) }
-    ensures outside { IfSome result (λ ends. home ends.1 ≡ receiver_home ends.2) }
-    ensures room { IfSome result (λ ends. room_of ends.0 ≡ capacity) }
+    ensures unposted { IfSome result (λ ends. posted ends.inside ≡ []) }
+    ensures untaken { IfSome result (λ ends. taken_by ends.receiver ≡ []) }
+    ensures inside { IfSome result (λ ends. home ends.inside ≡ receiver_home ends.receiver) }
+    ensures outside { IfSome result (λ ends. home ends.outside ≡ receiver_home ends.receiver) }
+    ensures timer { IfSome result (λ ends. home ends.timer ≡ receiver_home ends.receiver) }
+    ensures room { IfSome result (λ ends. room_of ends.inside ≡ capacity) }
 {
-    let Ok((_mailbox, mut senders, receiver)) = Mailbox::open(alloc, capacity, 2) else {
+    let Ok((_mailbox, mut senders, receiver)) = Mailbox::open(alloc, capacity, 3) else {
         return None;
     };
     let Some(inside) = senders.pop() else {
@@ -56,7 +64,15 @@ pub(crate) fn open_mailbox(
     let Some(outside) = senders.pop() else {
         return None;
     };
-    Some((inside, outside, receiver))
+    let Some(timer) = senders.pop() else {
+        return None;
+    };
+    Some(MailboxEnds {
+        inside,
+        outside,
+        timer,
+        receiver,
+    })
 }
 
 /// What a part has before its maker is asked. Its thread and the host each have one of the two shared values. Its
@@ -68,11 +84,13 @@ pub(crate) struct PartEnds {
     pub(crate) notifier: Arc<Notifier, Global>,
     pub(crate) inside: ControlSender,
     pub(crate) outside: ControlSender,
+    pub(crate) timer: ControlSender,
     pub(crate) receiver: Receiver<u8>,
     ghost unposted: { posted (sender_in inside) ≡ [] },
     ghost untaken: { taken_by receiver ≡ [] },
     ghost by_host: { home (sender_in inside) ≡ receiver_home receiver },
     ghost by_door: { home (sender_in outside) ≡ receiver_home receiver },
+    ghost by_timer: { home (sender_in timer) ≡ receiver_home receiver },
 }
 
 impl PartEnds {
@@ -93,12 +111,19 @@ impl PartEnds {
         let Ok(shared) = Arc::new(alloc, PartShared::new(alloc, host, activity)?) else {
             return Err(AllocError);
         };
-        let Some((inside, outside, receiver)) = open_mailbox(alloc, capacity) else {
+        let Some(MailboxEnds {
+            inside,
+            outside,
+            timer,
+            receiver,
+        }) = open_mailbox(alloc, capacity)
+        else {
             return Err(AllocError);
         };
         Ok(PartEnds {
             inside: ControlSender::new(inside, Arc::try_clone(&shared.notifier)?),
             outside: ControlSender::new(outside, Arc::try_clone(&shared.notifier)?),
+            timer: ControlSender::new(timer, Arc::try_clone(&shared.notifier)?),
             notifier: Arc::try_clone(&shared.notifier)?,
             own: Arc::try_clone(&shared)?,
             shared,

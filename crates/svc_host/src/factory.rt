@@ -101,6 +101,7 @@ impl<M: Maker + Drop, R: Runtime> PartFactory<M, R> {
             notifier,
             inside,
             outside,
+            timer,
             receiver,
         } = PartEnds::open(self.alloc, &self.notifier, &self.activity, self.rooms.mail)?;
         let PartResources {
@@ -130,6 +131,7 @@ impl<M: Maker + Drop, R: Runtime> PartFactory<M, R> {
             world,
             gate,
             receiver,
+            timer,
             begins: Beginning {
                 opening,
                 down,

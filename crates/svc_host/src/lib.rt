@@ -16,6 +16,7 @@ mod factory;
 mod growing_reader;
 mod growth;
 mod host;
+mod kill;
 mod maker;
 mod pair;
 mod part;

@@ -1,6 +1,5 @@
 //! The thread of a service.
-ghost use Rattle.std.specs.Prelude.{◌≡◌, []};
-ghost use mathlib.Core.List.{IsPrefix};
+ghost use Rattle.std.specs.Prelude.{◌≡◌, [], true};
 ghost use Rattle.tai_status.specs.declared.phase.Phase.{Phase};
 ghost use Rattle.sup_core.specs.History.{state_of};
 ghost use Rattle.svc_left.specs.Opening.{beginning};
@@ -8,11 +7,14 @@ ghost use Rattle.svc_house.specs.Calls.{ExtendedWhileKept, requested};
 ghost use Rattle.sup_core.specs.Rules.{asks_of_begin};
 ghost use Rattle.svc_station.specs.Ends.{opening_of, published, station};
 ghost use Rattle.svc_station.specs.Parking.{GoesOn, writer_in};
-ghost use Rattle.svc_mail.specs.Ends.{taken_by};
+ghost use Rattle.svc_mail.specs.Ends.{home, receiver_home, taken_by};
+ghost use Rattle.svc_house.specs.Mail.{sender_in};
+ghost use Rattle.svc_host.specs.Kills.{Begins, BeginsAsking, Heeds, KeepsTime, Looks, LooksAt, new_timer};
 ghost use Rattle.svc_host.specs.Answers.{answered};
 ghost use Rattle.svc_host.specs.Served.{IsServed, ServesOut};
 ghost use Rattle.svc_house.specs.Turn.{IsSameHouse, phase_in};
 
+use crate::kill::{KillTimer, is_asked};
 use crate::rest::{nanos_of, rest_before, shorter};
 use crate::shared::PartShared;
 use cmd_base::SystemClock;
@@ -21,7 +23,10 @@ use std::snapshot::Snapshot;
 use std::sync::{Arc, Wait};
 use std::thread::Promise;
 use std::time::{Clock, Duration};
-use svc_house::{Gate, House, HouseFault, Inbox, MailInbox, Notifier, Turned, World};
+use sup_core::{Event, Machine};
+use svc_house::{
+    ControlSender, Gate, House, HouseFault, Inbox, MailInbox, Notifier, Turned, World,
+};
 use svc_left::Opening;
 use svc_mail::receiver::Receiver;
 use svc_station::parked::Parked;
@@ -44,12 +49,15 @@ pub(crate) struct Task<W: World + Drop, G: Gate + Drop, R: Wait + Drop> {
     pub(crate) world: W,
     pub(crate) gate: G,
     pub(crate) receiver: Receiver<u8>,
+    /// The sender through which the service gets `k`, if it was asked to go and its time is over.
+    pub(crate) timer: ControlSender,
     pub(crate) begins: Beginning,
     pub(crate) shared: Arc<PartShared, Global>,
     ghost begun: { opening_of (writer_in parked)
         ≡ state_of (beginning begins.opening begins.down begins.label) },
     ghost unpublished: { published (writer_in parked) ≡ [] },
     ghost untaken: { taken_by receiver ≡ [] },
+    ghost own_mailbox: { home (sender_in timer) ≡ receiver_home receiver },
     ghost unanswered: { answered (W.calls world) ≡ [] },
 }
 
@@ -101,22 +109,143 @@ impl<R: Wait> ServesToItsEnd<R> {
     }
 }
 
-/// Rests after a turn that found nothing: until a notification, or until the end of the time for which the service
-/// settles or rests, but no longer than its world allows.
+/// Returns the running clock in milliseconds, if it can be read.
+fn running_millis<R: Clock>(rt: &R) -> Option<u64> {
+    u64::try_from(rt.monotonic().ok()?.as_millis()).ok()
+}
+
+/// Returns the timer of a service with this machine. `k` goes through `sender`.
+fn begin_timer<W: World, I: Inbox, G: Gate + Drop, R: Clock>(
+    rt: &R,
+    house: &mut House<W, I, G>,
+    machine: &Machine,
+    sender: ControlSender,
+) -> KillTimer
+    ensures house { house.new ≡ house.old }
+    ensures begins { Begins machine.now (new_timer (sender_in sender)) result }
+{
+    let mut timer = KillTimer::new(sender);
+    if is_asked(machine) {
+        begin(rt, house, &mut timer);
+    }
+    timer
+}
+
+/// Notes that a service is asked to go now.
+fn begin<W: World, I: Inbox, G: Gate + Drop, R: Clock>(
+    rt: &R,
+    house: &mut House<W, I, G>,
+    timer: &mut KillTimer,
+)
+    ensures house { house.new ≡ house.old }
+    ensures begins { BeginsAsking timer.old timer.new }
+{
+    let seconds = house.kill_time();
+    // An asking whose time is not known is never due.
+    timer.begin(running_millis(rt).unwrap_or(u64::MAX), seconds);
+}
+
+/// Heeds an event that was taken.
+fn heed<W: World, I: Inbox, G: Gate + Drop, R: Clock>(
+    rt: &R,
+    house: &mut House<W, I, G>,
+    timer: &mut KillTimer,
+    event: &Event,
+)
+    ensures house { house.new ≡ house.old }
+    ensures heeds { Heeds event.now timer.old timer.new }
+{
+    if timer.begins_with(event) {
+        begin(rt, house, timer);
+    } else {
+        timer.note(event);
+    }
+}
+
+/// Posts `k` if it is due at this time. Returns whether the asking is concluded.
+fn kill_if_due<W: World, I: Inbox, G: Gate + Drop, R: Wait>(
+    rt: &R,
+    house: &mut House<W, I, G>,
+    timer: &mut KillTimer,
+    now: u64,
+) -> bool
+    ensures house { house.new ≡ house.old }
+    ensures looks { LooksAt now timer.old timer.new }
+{
+    if !timer.is_due(now) {
+        return false;
+    }
+    let runs = house.kill_time().is_some();
+    timer.conclude(rt, runs)
+}
+
+/// Rests after a turn that found nothing: until a notification, until the end of the time for which the service settles
+/// or rests, or until `k` is due, but no longer than its world allows.
 fn rest<W: World, I: Inbox, G: Gate + Drop, R: Wait + Clock + Copy + Drop>(
     rt: R,
     house: &House<W, I, G>,
+    timer: &KillTimer,
+    now: u64,
     notifier: &Notifier,
 ) {
     let rest = match house.until() {
         None => None,
         Some(until) => Some(rest_before(SystemClock::new(rt).now(), until)),
     };
+    let until_kill = timer.rest(now);
     let longest = house.longest_rest().map(nanos_of);
-    notifier.wait(&rt, shorter(rest, longest).map(Duration::from_nanos));
+    let time = shorter(shorter(rest, until_kill), longest);
+    notifier.wait(&rt, time.map(Duration::from_nanos));
 }
 
-/// Turns the loop of a service until the service is gone.
+/// Rests after a turn that found nothing, unless `k` was due.
+fn idle<W: World, I: Inbox, G: Gate + Drop, R: Wait + Clock + Copy + Drop>(
+    rt: R,
+    house: &mut House<W, I, G>,
+    timer: &mut KillTimer,
+    notifier: &Notifier,
+)
+    ensures house { house.new ≡ house.old }
+    ensures looks { Looks timer.old timer.new }
+{
+    let now = running_millis(&rt).unwrap_or(0);
+    if !kill_if_due(&rt, house, timer, now) {
+        rest(rt, house, timer, now, notifier);
+    }
+}
+
+/// Makes one turn of the loop of a service. Returns whether the service is gone.
+fn step<W: World, I: Inbox, G: Gate + Drop, R: Wait + Clock + Copy + Drop>(
+    rt: R,
+    house: &mut House<W, I, G>,
+    timer: &mut KillTimer,
+    shared: &PartShared,
+) -> bool
+    ensures same { IsSameHouse house.old house.new }
+    ensures keeps { KeepsTime house.old.events house.new.events timer.old timer.new }
+    ensures gone { result ≡ true → phase_in house.new ≡ Phase.Gone }
+{
+    let turned = house.turn(&rt);
+    shared.note_owing(house.longest_rest().is_some());
+    match turned {
+        Ok(Turned::Took(event)) => {
+            heed(&rt, house, timer, &event);
+            shared.note_event();
+            false
+        }
+        Ok(Turned::Ended) => true,
+        Ok(Turned::Idle) => {
+            idle(rt, house, timer, &shared.notifier);
+            false
+        }
+        Err(HouseFault::OutOfMemory) => {
+            shared.notifier.wait(&rt, Some(Duration::from_millis(1)));
+            false
+        }
+    }
+}
+
+/// Turns the loop of a service until the service is gone. Its timer heeds each event.
 ///
 /// This function, and what is called for the first start, each publication, each poll and each child, are not inlined.
 /// The stack of a thread is therefore as deep as the deepest of them, not as all of them together.
@@ -124,22 +253,16 @@ fn rest<W: World, I: Inbox, G: Gate + Drop, R: Wait + Clock + Copy + Drop>(
 fn run<W: World, I: Inbox, G: Gate + Drop, R: Wait + Clock + Copy + Drop>(
     rt: R,
     house: &mut House<W, I, G>,
+    timer: &mut KillTimer,
     shared: &PartShared,
 )
     ensures same { IsSameHouse house.old house.new }
-    ensures more { IsPrefix house.old.events house.new.events }
+    ensures keeps { KeepsTime house.old.events house.new.events timer.old timer.new }
     ensures gone { phase_in house.new ≡ Phase.Gone }
 {
     for _ in rt.forever() {
-        let turned = house.turn(&rt);
-        shared.note_owing(house.longest_rest().is_some());
-        match turned {
-            Ok(Turned::Took(_)) => shared.note_event(),
-            Ok(Turned::Ended) => return,
-            Ok(Turned::Idle) => rest(rt, house, &shared.notifier),
-            Err(HouseFault::OutOfMemory) => {
-                shared.notifier.wait(&rt, Some(Duration::from_millis(1)));
-            }
+        if step(rt, house, timer, shared) {
+            return;
         }
     }
 }
@@ -180,11 +303,14 @@ fn serve<W: World + Drop, G: Gate + Drop, R: Wait + Clock + Copy + Drop>(
         world,
         gate,
         receiver,
+        timer,
         begins,
         shared,
     } = task;
     let mut house = open(world, receiver, gate, parked.into_writer(), begins);
-    run(rt, &mut house, &shared);
+    let machine = begins.opening.machine(begins.down, begins.label);
+    let mut timer = begin_timer(&rt, &mut house, &machine, timer);
+    run(rt, &mut house, &mut timer, &shared);
     let (writer, receiver) = house.leave();
     shared.end();
     (Parked::new(writer, rt), receiver)

@@ -216,6 +216,14 @@ impl<W: World, I: Inbox, G: Gate + Drop> House<W, I, G> {
         }
     }
 
+    /// Returns how many seconds after it was asked to go the service's process gets KILL, as its world says. None: it
+    /// never does, or there is no process.
+    pub fn kill_time(&mut self) -> Option<u64>
+        ensures { self.new ≡ self.old }
+    {
+        self.world.kill_time()
+    }
+
     /// Returns how long the service may rest before its next turn, as its world says. `None`: until it is notified.
     pub fn longest_rest(&self) -> Option<Duration> {
         self.world.longest_rest()

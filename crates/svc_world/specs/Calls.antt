@@ -25,6 +25,7 @@ use Rattle.svc_world.specs.declared.paper.Remark.{Remark}
 -- - It was sought whether the service has a `finish`.
 -- - A `finish` was spawned after this end and got this number, or could not be made.
 -- - It was sought whether a `finish` that began at this tick has run for as long as it may.
+-- - It was sought how many seconds after it was asked to go the service gets KILL.
 pub data Call : Type 0 where
   Spawned : (child : Option ℕ) → Call
   SoughtDeath : (death : Option Death) → Call
@@ -40,3 +41,4 @@ pub data Call : Type 0 where
   SoughtFinish : (has : Bool) → Call
   SpawnedFinish : (exit : Exit) → (child : Option ℕ) → Call
   SoughtLate : (tick : ℕ) → (late : Bool) → Call
+  SoughtKillTime : (seconds : Option ℕ) → Call

@@ -33,7 +33,7 @@ use Rattle.svc_world.specs.declared.paper.Remark.{Remark}
 use Rattle.svc_world.specs.declared.paper.Remark.TheVariants.{StillRuns, Unwritten, AllWritten}
 use Rattle.svc_world.specs.Owed.{first_owed, is_owed, nothing_owed, with_owed}
 use Rattle.svc_world.specs.Calls.{Call, Spawned, SoughtDeath, Lingered, Signalled, Wrote, Said, SoughtLeftover, Adopted}
-use Rattle.svc_world.specs.Calls.{SoughtTick, ReadTick, ReadClock, SoughtFinish, SpawnedFinish, SoughtLate}
+use Rattle.svc_world.specs.Calls.{SoughtTick, ReadTick, ReadClock, SoughtFinish, SpawnedFinish, SoughtKillTime, SoughtLate}
 
 pub record Watch : Type 0 where
   -- what was asked of the system, while that is recorded
@@ -321,6 +321,16 @@ pub record SignalsChild (sig : Sig) (pid : ℕ) (old new : Watch) : Type 0 where
   pub death : Option Death
   pub calls : ExtendedWhileKept old.calls new.calls (SoughtDeath death ∷ sent sig pid death)
   pub stands : new ≡ record old { calls = new.calls; child = found pid death }
+
+-- The seconds after which a service that was asked to go gets KILL were sought, once.
+pub record AsksKillTime (seconds : Option ℕ) (old new : Watch) : Type 0 where
+  pub calls : ExtendedWhileKept old.calls new.calls (SoughtKillTime seconds ∷ [])
+  pub stands : new ≡ record old { calls = new.calls }
+
+-- The same for the last child: a child whose death is known, or none, never gets KILL.
+abbrev pub SeeksKillTime : LastChild → (seconds : Option ℕ) → (old new : Watch) → Type 0
+SeeksKillTime (Alive pid) seconds old new = AsksKillTime seconds old new
+SeeksKillTime child seconds old new = (seconds ≡ None) × (new ≡ old)
 
 -- Deaths
 

@@ -13,7 +13,7 @@ pub trait ChildSystem {
     ghost use Rattle.svc_house.specs.Calls.{ExtendedWhileKept};
     ghost use Rattle.svc_world.specs.Calls.{Call, Spawned, SoughtDeath, Lingered, Signalled, Wrote, Said};
     ghost use Rattle.svc_world.specs.Calls.{SoughtLeftover, Adopted, SoughtTick, ReadTick, ReadClock};
-    ghost use Rattle.svc_world.specs.Calls.{SoughtFinish, SpawnedFinish, SoughtLate};
+    ghost use Rattle.svc_world.specs.Calls.{SoughtFinish, SoughtKillTime, SpawnedFinish, SoughtLate};
     ghost use Rattle.svc_left.specs.Leftover.{HasNumber, IsAwaited};
 
     ghost calls: { Self → Option (List Call) } = { λ _. None };
@@ -36,6 +36,10 @@ pub trait ChildSystem {
     /// Returns whether a `finish` that began at this tick of the kernel's clock has run for as long as it may.
     fn is_late(&mut self, tick: u64) -> bool
         ensures calls { ExtendedWhileKept (calls self.old) (calls self.new) (SoughtLate tick result ∷ []) };
+
+    /// Returns how many seconds after it was asked to go the service gets KILL. Returns None if it never does.
+    fn kill_time(&mut self) -> Option<u64>
+        ensures calls { ExtendedWhileKept (calls self.old) (calls self.new) (SoughtKillTime result ∷ []) };
 
     /// Returns how and when the last child, or the adopted process, died, once it has died. The last child may be a
     /// `finish`. Each death is reported once.

@@ -11,6 +11,9 @@ const FINISH_SECONDS: u64 = 5;
 /// The ticks of the kernel's clock in a second, as it reports times (sysconf(3), `_SC_CLK_TCK`).
 const TICKS: u128 = 100;
 
+/// The file of a service that says how long its `finish` may run.
+pub(crate) const FINISH_TIME: &str = "timeout-finish";
+
 /// What is said about a service if its file `timeout-finish` holds no number of seconds.
 pub(crate) const NO_FINISH_TIME: &str = "timeout-finish is no number of seconds: 5 seconds count";
 

@@ -787,13 +787,10 @@ impl ServiceFolder {
         }
     }
 
-    /// Returns the text of `timeout-finish`. Returns None if there is no such file.
+    /// Returns the text of the file with this name. Returns None if there is no such file.
     #[inline(never)]
-    pub(crate) fn finish_time(&self) -> Option<SettingText> {
-        read_front::<HostRuntime, SETTING_BYTES>(
-            &self.files,
-            self.path("timeout-finish").as_str(),
-        ).ok()
+    pub(crate) fn setting(&self, name: &str) -> Option<SettingText> {
+        read_front::<HostRuntime, SETTING_BYTES>(&self.files, self.path(name).as_str()).ok()
     }
 
     /// Returns what is left over of a `finish` with this process.

@@ -21,6 +21,7 @@ mod child_system;
 mod finish;
 mod flow;
 mod folder;
+mod kill;
 mod linger;
 mod neighbours;
 mod output;

@@ -10,8 +10,9 @@ ghost use Rattle.svc_left.specs.Leftover.{HasNumber};
 use crate::begin::Death;
 use crate::child_reaper::{ChildReaper, ChildSlot, DeathSlot, WatchedChild};
 use crate::child_system::ChildSystem;
-use crate::finish::{NO_FINISH_TIME, finish_seconds, is_late, seconds_in};
+use crate::finish::{FINISH_TIME, NO_FINISH_TIME, finish_seconds, is_late, seconds_in};
 use crate::folder::{ServiceFolder, SettingText};
+use crate::kill::{KILL_TIME, NO_KILL_TIME, kill_seconds};
 use crate::linger::Linger;
 use crate::paper::{Paper, Remark};
 use crate::processes::{AdoptedProcess, tick_of};
@@ -335,14 +336,14 @@ where
         self.launch(&mut finish(self.alloc, exit.ending)?)
     }
 
-    /// Reports a file of the service that holds no number of seconds.
+    /// Returns the text of a file of the service, if there is one. Reports this if the text is no number of seconds.
     #[inline(never)]
-    fn report_time(&self, text: Option<SettingText>) {
-        if let Some(text) = text
-            && seconds_in(text.as_slice()).is_none()
-        {
-            self.report(NO_FINISH_TIME);
+    fn read_seconds(&self, name: &str, fault: &str) -> Option<SettingText> {
+        let text = self.folder.setting(name)?;
+        if seconds_in(text.as_slice()).is_none() {
+            self.report(fault);
         }
+        Some(text)
     }
 
     /// Reports a `finish` that can't be run.
@@ -400,7 +401,7 @@ where
 
     #[inline(never)]
     fn finish(&mut self, exit: &Exit) -> Option<u32> {
-        self.report_time(self.folder.finish_time());
+        let _ = self.read_seconds(FINISH_TIME, NO_FINISH_TIME);
         match self.make_watched(Some(exit)) {
             Ok(pid) if pid > 0 => Some(pid),
             Ok(_) => None,
@@ -412,9 +413,15 @@ where
     }
 
     fn is_late(&mut self, tick: u64) -> bool {
-        let text = self.folder.finish_time();
+        let text = self.folder.setting(FINISH_TIME);
         let seconds = finish_seconds(text.as_ref().map(|text| text.as_slice()));
         is_late(seconds, tick, present_tick(self.runtime.monotonic().ok()))
+    }
+
+    #[inline(never)]
+    fn kill_time(&mut self) -> Option<u64> {
+        let text = self.read_seconds(KILL_TIME, NO_KILL_TIME)?;
+        kill_seconds(text.as_slice())
     }
 
     fn death(&mut self) -> Option<Death> {

@@ -692,7 +692,8 @@ impl<C: ChildSystem + Drop> World for ChildWorld<C> {
     ghost use Rattle.std.specs.Prelude.{◌≡◌, ◌≢◌, ◌<◌, None, IfSome};
     ghost use Rattle.svc_house.specs.Calls.{IsAnswer};
     ghost use Rattle.svc_world.specs.declared.begin.LastChild.TheVariants.{Alive};
-    ghost use Rattle.svc_world.specs.Watch.{Mends, PollsDeath, ReadsClock, Records, SignalsChild, Starts, Watch};
+    ghost use Rattle.svc_world.specs.Watch.{Mends, PollsDeath, ReadsClock, Records, SeeksKillTime, SignalsChild, Starts};
+    ghost use Rattle.svc_world.specs.Watch.{Watch};
 
     /// Sends a signal to the last child if its death is not known. Looks for its death just before, and sends nothing
     /// if it finds one. Sends nothing to any other process.
@@ -774,6 +775,17 @@ impl<C: ChildSystem + Drop> World for ChildWorld<C> {
         self.write_again(Paper::Exit);
         self.write_again(Paper::Counts);
         self.say_change();
+    }
+
+    /// Returns how many seconds after it was asked to go the last child gets KILL, if its death is not known. Returns
+    /// None for any other.
+    fn kill_time(&mut self) -> Option<u64>
+        ensures { SeeksKillTime self.old.child result self.old self.new }
+    {
+        match self.child {
+            LastChild::Alive(_) => self.system.kill_time(),
+            _ => None,
+        }
     }
 
     /// Returns 3 milliseconds while a death waits, 100 while a `finish` runs, and otherwise one second while a paper is
