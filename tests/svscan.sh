@@ -530,7 +530,7 @@ while :; do sleep 0.1; done
 END
 }
 # the bytes k in the kept trace of a service
-kills() { timeout 10 "$program" trace "$1/supervise/trace" 2>/dev/null | grep -c '^byte k\b'; }
+kills() { timeout 10 "$program" trace "$1/supervise/trace" 2>/dev/null | grep -cE '^[0-9]+ byte k: '; }
 
 # A service that was asked to go and still runs gets k after the seconds in timeout-kill, once, and never without that file.
 timed_kill() {

@@ -1,13 +1,16 @@
 -- What a timer knows of its mailbox after a post that was refused, and how its moments follow one another.
 use Rattle.std.proofs.Common.{◌≡◌, ◌≤◌, ℕ, ◌+◌, Bool, true, false, List, [], ◌∷◌, ◌++◌, refl, sym, ap, subst, ◌∙◌, inl, inr}
-use Rattle.std.specs.Prelude.{Result, Ok, Err, OnErr, IfErr, Option, None, Some, length}
+use Rattle.std.specs.Prelude.{Result, Ok, Err, OnErr, IfErr, Option, None, Some, length, is_none, ◌&&◌, codes, MatchBool, if◌then◌else◌}
 use Rattle.std.specs.Result.{is_err}
 use Rattle.sup_core.specs.declared.event.Event.{Event}
 use Rattle.svc_mail.specs.declared.sender.Sender.{Sender}
 use Rattle.svc_mail.specs.Ends.{IsSameSender, heard_by, posted, seen_by}
 use Rattle.svc_mail.specs.Ends.{WasFull as SenderWasFull}
 use Rattle.svc_host.specs.Kills.{Concludes, Heeds, HeedsAll, KeepsTime, Looks, Moment, Timer, TimerRun, events_of}
-use Rattle.svc_host.specs.Kills.{Heeded, Looked}
+use Rattle.svc_host.specs.Kills.{Heeded, Looked, LooksAt, asks_to_go, begins_asking, count_askings, count_open, is_due}
+use Rattle.svc_host.specs.Kills.{BeginsAsking, ConcludesOne, OnceForEachAsking, after_seconds, ends_asking, is_reached, with_asking}
+use Rattle.svc_host.specs.declared.kill.Asking.{Asking}
+use native.Mathlib.Omega.{arith}
 use Rattle.svc_host.specs.Mails.{Mail, WasFull, mail_of}
 use Rattle.svc_host.proofs.Stepping.{mail_same}
 
@@ -73,3 +76,76 @@ along a b c old mid new first second =
         each = grind (each, first.heeds.each, second.heeds.each);
       };
     }
+
+-- At most once
+
+-- an asking that goes on, or not, opens none
+stays_open : (ends : Bool) (asking : Option Asking) → count_open (if ends then None else asking) ≤ count_open asking
+stays_open true asking = grind (arith)
+stays_open false asking = grind (arith)
+
+asks_by : (asks : Bool) (asking : Option Asking) (event : Event) (old new : Timer) → old.asking ≡ asking
+    → MatchBool (asks && is_none asking) (BeginsAsking old new)
+    (new ≡ with_asking (if ends_asking event then None else old.asking) old)
+    → length new.mail.posted + count_open new.asking
+    ≤ length old.mail.posted + count_open old.asking + (if asks then 1 else 0)
+asks_by true None event old new is begins = grind (arith, is, begins.stands)
+asks_by true (Some asking) event old new is stands =
+    let less = stays_open (ends_asking event) old.asking in
+    grind (arith, is, stands, less)
+asks_by false asking event old new is stands =
+    let less = stays_open (ends_asking event) old.asking in
+    grind (arith, is, stands, less)
+
+-- An event opens at most one asking, and posts nothing.
+heeds_few : (event : Event) (old new : Timer) → Heeds event old new
+    → length new.mail.posted + count_open new.asking
+    ≤ length old.mail.posted + count_open old.asking + (if asks_to_go event then 1 else 0)
+heeds_few event old new heeds = asks_by (asks_to_go event) old.asking event old new refl heeds
+
+-- what is due is not over
+open_if_due : (is_over : Bool) (time : Option ℕ) (now : ℕ) → is_reached (if is_over then None else time) now ≡ true
+    → is_over ≡ false
+open_if_due false time now due = refl
+open_if_due true time now due = grind (due)
+
+-- An asking that is concluded is no longer open.
+concludes_few : (runs : Bool) (asking : Asking) (old new : Timer) → old.asking ≡ Some asking → asking.is_over ≡ false
+    → Concludes runs old new
+    → length new.mail.posted + count_open new.asking ≤ length old.mail.posted + count_open old.asking
+concludes_few false asking old new is is_open stands = grind (arith, is, is_open, stands)
+concludes_few true asking old new is is_open (inl done) =
+    let posted = ap (λ (bytes : List ℕ). length bytes) done.1 in
+    grind (arith, is, is_open, done.0, posted)
+concludes_few true asking old new is is_open (inr full) = grind (arith, full.0)
+
+looks_by : (due : Bool) (asking : Option Asking) (now : ℕ) (old new : Timer) → old.asking ≡ asking
+    → is_due asking now ≡ due → MatchBool due (ConcludesOne old new) (new ≡ old)
+    → length new.mail.posted + count_open new.asking ≤ length old.mail.posted + count_open old.asking
+looks_by false asking now old new is due stands = grind (arith, stands)
+looks_by true None now old new is due concludes = grind (due)
+looks_by true (Some asking) now old new is due concludes =
+    let is_open = open_if_due asking.is_over (after_seconds asking.since asking.seconds) now due in
+    concludes_few concludes.0 asking old new is is_open concludes.1
+
+looks_few : (old new : Timer) → Looks old new
+    → length new.mail.posted + count_open new.asking ≤ length old.mail.posted + count_open old.asking
+looks_few old new looks = looks_by (is_due old.asking looks.0) old.asking looks.0 old new refl refl looks.1
+
+moments_few : (moments : List Moment) (old new : Timer) → TimerRun moments old new
+    → length new.mail.posted + count_open new.asking
+    ≤ length old.mail.posted + count_open old.asking + count_askings (events_of moments)
+moments_few [] old new is = grind (arith, is)
+moments_few (Heeded event ∷ moments) old new run =
+    let step = heeds_few event old run.0 run.1 in
+    let rest = moments_few moments run.0 new run.2 in
+    grind (arith, step, rest)
+moments_few (Looked ∷ moments) old new run =
+    let step = looks_few old run.0 run.1 in
+    let rest = moments_few moments run.0 new run.2 in
+    grind (arith, step, rest)
+
+pub once : OnceForEachAsking
+once events old new heeds =
+    let few = moments_few heeds.moments old new heeds.run in
+    grind (arith, few, heeds.each)

@@ -169,7 +169,6 @@ abbrev pub OnceForEachAsking : Type 0
 OnceForEachAsking = (events : List Event) (old new : Timer) → HeedsAll events old new
     → length new.mail.posted ≤ length old.mail.posted + count_open old.asking + count_askings events
 
--- Without a number of seconds nothing is posted.
+-- Without a number of seconds `k` is never due.
 abbrev pub NeverWithoutSeconds : Type 0
-NeverWithoutSeconds = (asking : Asking) (old new : Timer) → asking.seconds ≡ None → old.asking ≡ Some asking
-    → Looks old new → new ≡ old
+NeverWithoutSeconds = (asking : Asking) (now : ℕ) → asking.seconds ≡ None → is_due (Some asking) now ≡ false

@@ -1,6 +1,7 @@
 //! When a service that was asked to go gets the control byte `k`.
 ghost use Rattle.std.specs.Prelude.{◌≡◌};
-ghost use Rattle.svc_host.specs.Kills.{asks_to_go, due_at, ends_asking, is_asked, over, rest_until};
+ghost use Rattle.svc_host.specs.Kills.{NeverWithoutSeconds, OnceForEachAsking, asks_to_go, due_at, ends_asking};
+ghost use Rattle.svc_host.specs.Kills.{is_asked, over, rest_until};
 
 use std::marker::Model;
 use std::sync::Wait;
@@ -174,3 +175,14 @@ impl KillTimer {
         rest_until(due_at(self.asking), now)
     }
 }
+
+/// A law: a service gets `k` at most once for each time that it is asked to go.
+#[tactic(auto, using(crate::proofs::Killing::once))]
+pub fn once_for_each_asking()
+    ensures { OnceForEachAsking }
+{}
+
+/// A law: without a number of seconds a service never gets `k`.
+pub fn never_without_seconds()
+    ensures { NeverWithoutSeconds }
+{}

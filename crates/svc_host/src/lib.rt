@@ -29,6 +29,7 @@ mod service;
 mod shared;
 
 pub use host::{Host, HostOut, PostFault, Unmade};
+pub use kill::{never_without_seconds, once_for_each_asking};
 pub use maker::{Maker, Outlets, PartFault, PartResources, Reaper};
 pub use part::Loss;
 pub use runtime::Runtime;
