@@ -10,6 +10,7 @@ use Rattle.svc_host.specs.Kills.{Concludes, Heeds, HeedsAll, KeepsTime, Looks, M
 use Rattle.svc_host.specs.Kills.{Heeded, Looked, LooksAt, asks_to_go, begins_asking, count_askings, count_open, is_due}
 use Rattle.svc_host.specs.Kills.{BeginsAsking, ConcludesOne, OnceForEachAsking, after_seconds, ends_asking, is_reached, with_asking}
 use Rattle.svc_host.specs.declared.kill.Asking.{Asking}
+use Rattle.std.proofs.lemmas.List.{append-nil, append_assoc, length-append}
 use native.Mathlib.Omega.{arith}
 use Rattle.svc_host.specs.Mails.{Mail, WasFull, mail_of}
 use Rattle.svc_host.proofs.Stepping.{mail_same}
@@ -23,14 +24,15 @@ pub refused : {A X Y : Type 0} (Same : Y → Type 0) (timer : Timer) (old new : 
     → OnErr result (posted new ≡ posted old) → OnErr result (seen_by new ≡ seen_by old) → heard_by new ≡ heard_by old
     → IfErr result (λ full. Same full × SenderWasFull old)
     → Concludes true timer (with_mail timer (mail_of new))
-refused Same timer old new (Err fault) yes is same post see hear full =
+refused Same timer old new (Ok x) fails is same post see hear full = grind (arith, fails)
+refused Same timer old new (Err fault) fails is same post see hear full =
     inr (ap (with_mail timer) (mail_same old new same post see hear ∙ sym is), subst WasFull (sym is) full.1)
 
 -- Nothing happened.
 pub nothing : (events : List Event) (timer : Timer) → KeepsTime events events timer timer
 nothing events timer = record {
   more = [];
-  events = grind;
+  events = sym (append-nil events);
   heeds = record { moments = []; run = refl; each = refl };
 }
 
@@ -47,7 +49,7 @@ one_event events more event old new is heeds = record {
 pub one_look : (events : List Event) (old new : Timer) → Looks old new → KeepsTime events events old new
 one_look events old new looks = record {
   more = [];
-  events = grind;
+  events = sym (append-nil events);
   heeds = record { moments = Looked ∷ []; run = (new, looks, refl); each = refl };
 }
 
@@ -69,11 +71,17 @@ along a b c old mid new first second =
     let each = events_along first.heeds.moments second.heeds.moments in
     record {
       more = first.more ++ second.more;
-      events = grind (first.events, second.events);
+      events =
+          second.events
+          ∙ ap (λ (events : List Event). events ++ second.more) first.events
+          ∙ append_assoc a first.more second.more;
       heeds = record {
         moments = first.heeds.moments ++ second.heeds.moments;
         run = run_along first.heeds.moments second.heeds.moments old mid new first.heeds.run second.heeds.run;
-        each = grind (each, first.heeds.each, second.heeds.each);
+        each =
+            each
+            ∙ ap (λ (events : List Event). events ++ events_of second.heeds.moments) first.heeds.each
+            ∙ ap (λ (events : List Event). first.more ++ events) second.heeds.each;
       };
     }
 
@@ -107,7 +115,7 @@ heeds_few event old new heeds = asks_by (asks_to_go event) old.asking event old 
 open_if_due : (is_over : Bool) (time : Option ℕ) (now : ℕ) → is_reached (if is_over then None else time) now ≡ true
     → is_over ≡ false
 open_if_due false time now due = refl
-open_if_due true time now due = grind (due)
+open_if_due true time now due = grind (arith, due)
 
 -- An asking that is concluded is no longer open.
 concludes_few : (runs : Bool) (asking : Asking) (old new : Timer) → old.asking ≡ Some asking → asking.is_over ≡ false
@@ -115,7 +123,7 @@ concludes_few : (runs : Bool) (asking : Asking) (old new : Timer) → old.asking
     → length new.mail.posted + count_open new.asking ≤ length old.mail.posted + count_open old.asking
 concludes_few false asking old new is is_open stands = grind (arith, is, is_open, stands)
 concludes_few true asking old new is is_open (inl done) =
-    let posted = ap (λ (bytes : List ℕ). length bytes) done.1 in
+    let posted = ap (λ (bytes : List ℕ). length bytes) done.1 ∙ length-append old.mail.posted (codes "k") in
     grind (arith, is, is_open, done.0, posted)
 concludes_few true asking old new is is_open (inr full) = grind (arith, full.0)
 
@@ -123,7 +131,7 @@ looks_by : (due : Bool) (asking : Option Asking) (now : ℕ) (old new : Timer) �
     → is_due asking now ≡ due → MatchBool due (ConcludesOne old new) (new ≡ old)
     → length new.mail.posted + count_open new.asking ≤ length old.mail.posted + count_open old.asking
 looks_by false asking now old new is due stands = grind (arith, stands)
-looks_by true None now old new is due concludes = grind (due)
+looks_by true None now old new is due concludes = grind (arith, due)
 looks_by true (Some asking) now old new is due concludes =
     let is_open = open_if_due asking.is_over (after_seconds asking.since asking.seconds) now due in
     concludes_few concludes.0 asking old new is is_open concludes.1

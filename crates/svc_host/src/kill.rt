@@ -177,7 +177,6 @@ impl KillTimer {
 }
 
 /// A law: a service gets `k` at most once for each time that it is asked to go.
-#[tactic(auto, using(crate::proofs::Killing::once))]
 pub fn once_for_each_asking()
     ensures { OnceForEachAsking }
 {}

@@ -20,3 +20,10 @@ returns-clause-outside c =
     (last_sender _ _ _ _ _ _ (front_senders _ _ _ _ _ _ c.in-Ok.ensures.3 c.in-Some.ensures.items)
     c.in-Some-pop.ensures.items).0
     ∙ sym c.in-Ok.ensures.4.0
+
+pub returns-clause-timer : goal.returns-clause-timer
+returns-clause-timer c =
+    (last_sender _ _ _ _ _ _
+    (front_senders _ _ _ _ _ _ c.in-Ok.ensures.3 c.in-Some.ensures.items)
+    c.in-Some-pop.ensures.items).0
+    ∙ sym c.in-Ok.ensures.4.0
