@@ -4,4 +4,4 @@
 pub(crate) const KIT: &str = "rattle-kit-13f logic dac8208d650f15bf";
 
 /// The sum of its sources, as packaging/source-sum says it.
-pub(crate) const SOURCE: &str = "608c8d67455d2ee8133ee9184a945ed1842db80c46cb2224fefbf8cb89e789a8";
+pub(crate) const SOURCE: &str = "040059ad09627c4c5ed08c2e2f971bb8908ce0125e60954923a60fa4c1531821";
