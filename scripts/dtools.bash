@@ -1,4 +1,5 @@
-# Completion of bash for dtools and its commands: letters, and the services of SVDIR, or else of /etc/dtools/service.
+# Completion of bash for dtools and its commands: letters, and the services of SVDIR, also by their names, or else of
+# /etc/dtools/service.
 _dtools_services() {
   local folder=${SVDIR:-/etc/dtools/service} service
   local found=()
@@ -6,6 +7,7 @@ _dtools_services() {
     [ -d "$service" ] || continue
     service=${service%/}
     found+=("$service")
+    [ -n "${SVDIR:-}" ] && found+=("${service##*/}")
     [ -d "$service/log" ] && found+=("$service/log")
   done
   mapfile -t COMPREPLY < <(compgen -W "${found[*]}" -- "$word")

@@ -85,6 +85,7 @@ mkdir -p services/web/log services/db
 is 'completion of a command' 'svscan svc svstat svok' "$(completes dtools sv)"
 is 'completion of a service' 'services/web services/web/log' "$(completes svc -t services/w)"
 is 'completion of an option' '-u' "$(completes svwait -u)"
+is 'completion of a name' 'web' "$(completes svc -t w)"
 is 'completion of a service to wait for' 'services/db' "$(completes svwait -d services/d)"
 is 'completion of a service to restart' 'services/db' "$(completes svrestart services/d)"
 is 'completion of the options of restart' '-t' "$(completes dtools restart -)"

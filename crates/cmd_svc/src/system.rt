@@ -1,5 +1,5 @@
 //! The system's own folders of services.
-ghost use Rattle.std.specs.Prelude.{◌≡◌, ◌↔◌, ◌≤◌, ◌<◌, ◌+◌, ◌*◌, ◌^◌, ◌++◌, length, IsTrue, IfOk, OnErr, SomeIff};
+ghost use Rattle.std.specs.Prelude.{◌≡◌, ◌↔◌, ◌≤◌, ◌<◌, ◌+◌, ◌*◌, ◌^◌, ◌++◌, length, IsTrue, SomeIff};
 ghost use Rattle.std.specs.IoError.{error_kind};
 ghost use Rattle.cmd_svc.specs.Paths.{FitsAddress};
 ghost use Rattle.cmd_svc.specs.Connecting.{unreached_by};
@@ -9,6 +9,7 @@ use crate::services::{Services, Unreached};
 use arrayvec::ArrayString;
 use cmd_base::{StatusFront, path_by_descriptor, push_number, read_status_front};
 use mio::net::UnixStream;
+use std::env::Env;
 use std::fs::{File, Files, Metadata};
 use std::io::{Error, ErrorKind, Read, Write};
 use std::net::Net;
@@ -16,10 +17,8 @@ use std::os::fd::AsRawFd;
 use std::os::unix::fs::MetadataExt;
 use std::time::Clock;
 use std::{fs, io};
+use svc_places::service_path;
 use tai_status::Cause;
-
-/// The longest path on this system, in bytes, with the zero at its end.
-const PATH_BYTES: usize = 4096;
 
 /// The longest path of a socket, in bytes: its address has one more byte, for the zero at the end.
 const SOCKET_BYTES: usize = 107;
@@ -30,13 +29,13 @@ const STAT_BYTES: usize = 512;
 
 /// The services of this system. It says nothing to contracts, and needs no memory.
 #[derive(Drop)]
-pub struct SystemServices<R: Files<File = File> + Net + Clock + Drop> {
+pub struct SystemServices<R: Files<File = File> + Net + Env + Clock + Drop> {
     runtime: R,
     /// The first reading of the clock for an age, in ticks.
     first: Option<u64>,
 }
 
-impl<R: Files<File = File> + Net + Clock + Drop> SystemServices<R> {
+impl<R: Files<File = File> + Net + Env + Clock + Drop> SystemServices<R> {
     /// Returns the services of this runtime.
     pub fn new(runtime: R) -> SystemServices<R> {
         SystemServices {
@@ -69,24 +68,18 @@ fn living_tick_at<R: Files<File = File>>(runtime: &R, path: &str) -> Option<u64>
     living_tick(&line[..count.min(STAT_BYTES)])
 }
 
-/// Returns the path of something in a folder. A path that is longer than any on this system is a fault.
-fn path_in(folder: &str, rest: &str) -> io::Result<ArrayString<PATH_BYTES>>
-    ensures ok { IfOk result (λ path. path.bytes ≡ folder.now ++ rest.now) }
-    ensures err { OnErr result (4096 < length folder.now + length rest.now) }
-{
-    let mut path = ArrayString::new();
-    if path.try_push_str(folder).is_err() || path.try_push_str(rest).is_err() {
-        return Err(Error::from(ErrorKind::InvalidInput));
-    }
-    Ok(path)
-}
-
-/// Returns whether there is something in a folder.
-fn is_there<R: Files>(runtime: &R, folder: &str, rest: &str) -> bool {
-    match path_in(folder, rest) {
+/// Returns whether there is something in the folder of a service.
+fn is_there<R: Files + Env>(runtime: &R, folder: &str, rest: &str) -> bool {
+    match service_path(runtime, folder, rest) {
         Ok(path) => fs::metadata(runtime, path.as_str()).is_ok(),
         Err(_) => false,
     }
+}
+
+/// Returns what there is at the path of the folder of a service.
+fn folder_at<R: Files + Env>(runtime: &R, folder: &str) -> io::Result<Metadata> {
+    let path = service_path(runtime, folder, "")?;
+    fs::metadata(runtime, path.as_str())
 }
 
 /// Returns whether the path of a name in a folder fits into the address of a socket.
@@ -105,14 +98,14 @@ fn connect_to<R: Files<File = File> + Net>(runtime: &R, path: &str) -> io::Resul
 
 /// Connects to a socket of the service in a folder, without waiting. If the path is too long for a socket, connects
 /// through the open folder.
-fn connect<R: Files<File = File> + Net>(
+fn connect<R: Files<File = File> + Net + Env>(
     runtime: &R,
     folder: &str,
     name: &str,
 ) -> io::Result<UnixStream>
     requires { length name.now ≤ 7 }
 {
-    let mut path = path_in(folder, "/supervise/")?;
+    let mut path = service_path(runtime, folder, "/supervise/")?;
     if is_short(path.as_str(), name) {
         path.push_str(name);
         return connect_to(runtime, path.as_str());
@@ -136,7 +129,7 @@ fn unreached(fault: &Error) -> Unreached
 }
 
 /// Connects to the control socket of the service in a folder, and sends it bytes.
-fn send_bytes<R: Files<File = File> + Net>(
+fn send_bytes<R: Files<File = File> + Net + Env>(
     runtime: &R,
     folder: &str,
     bytes: &[u8],
@@ -159,7 +152,7 @@ fn changed_at(folder: &Metadata) -> Option<u64> {
     nanoseconds(seconds, rest)
 }
 
-impl<R: Files<File = File> + Net + Clock + Drop> Services for SystemServices<R> {
+impl<R: Files<File = File> + Net + Env + Clock + Drop> Services for SystemServices<R> {
     fn send(&mut self, folder: &str, bytes: &[u8]) -> Result<(), Unreached> {
         send_bytes(&self.runtime, folder, bytes).map_err(|fault| unreached(&fault))
     }
@@ -172,7 +165,7 @@ impl<R: Files<File = File> + Net + Clock + Drop> Services for SystemServices<R> 
     }
 
     fn read_status(&mut self, folder: &str) -> io::Result<StatusFront> {
-        let path = path_in(folder, "/supervise/status")?;
+        let path = service_path(&self.runtime, folder, "/supervise/status")?;
         read_status_front(&self.runtime, path.as_str())
     }
 
@@ -185,13 +178,13 @@ impl<R: Files<File = File> + Net + Clock + Drop> Services for SystemServices<R> 
     }
 
     fn changed_at(&mut self, folder: &str) -> Option<u64> {
-        let path = path_in(folder, "/supervise").ok()?;
+        let path = service_path(&self.runtime, folder, "/supervise").ok()?;
         let found = fs::metadata(&self.runtime, path.as_str()).ok()?;
         changed_at(&found)
     }
 
     fn folder_fault(&mut self, folder: &str) -> Option<Cause> {
-        match fs::metadata(&self.runtime, folder) {
+        match folder_at(&self.runtime, folder) {
             Ok(found) if found.is_dir() => None,
             Ok(_) => Some(Cause::NoFolder),
             Err(fault) => Some(Cause::of(&fault)),

@@ -8,6 +8,7 @@ use Rattle.tai_status.specs.Counted.{Device, Reports}
 use Rattle.trace_words.specs.Words.{asked_of}
 use Rattle.trace_words.proofs.Examples.{no_word}
 use Rattle.cmd_base.specs.Known.{IsKnown, KnownFiles}
+use Rattle.svc_places.specs.Places.{KnownPlaces}
 use Rattle.cmd_base.specs.Usage.{usage_text}
 use Rattle.cmd_base.specs.declared.command.Command.TheVariants as command
 use Rattle.cmd_trace.specs.Traced.{AskFor, DoesAsked, TraceEnds}
@@ -18,26 +19,26 @@ pub asks_nothing : (words : List (List ℕ)) → asked_of words ≡ None → (fi
 asks_nothing words none file at local asked = let never = sym none ∙ asked.1.0 in cc never
 
 -- no words at all
-pub ends_without_words : {W : Type 0} (text : W → List ℕ) (words : List W) (ahead : ℤ → ℤ) (files : KnownFiles)
+pub ends_without_words : {W : Type 0} (text : W → List ℕ) (words : List W) (ahead : ℤ → ℤ) (files : KnownFiles) (places : KnownPlaces)
     (status : ℕ) (writer writes faults reports : Device) → length words ≡ 0 → status ≡ 100 → writes ≡ writer
     → Reports faults reports (usage_text command.Trace)
-    → TraceEnds ahead files (map text words) status writer writes faults reports
-ends_without_words text [] ahead files status writer writes faults reports none is unwritten reported = record {
+    → TraceEnds ahead files places (map text words) status writer writes faults reports
+ends_without_words text [] ahead files places status writer writes faults reports none is unwritten reported = record {
   wrong = asks_nothing [] no_word;
   unwritten = unwritten;
   reported = reported;
   status_is = is;
 }
-ends_without_words text (word ∷ words) ahead files status writer writes faults reports none is unwritten reported =
+ends_without_words text (word ∷ words) ahead files places status writer writes faults reports none is unwritten reported =
     absurd (omega (arith, none))
 
 -- words that ask for something
-pub ends_asked : {W : Type 0} (text : W → List ℕ) (words : List W) (ahead : ℤ → ℤ) (files : KnownFiles)
+pub ends_asked : {W : Type 0} (text : W → List ℕ) (words : List W) (ahead : ℤ → ℤ) (files : KnownFiles) (places : KnownPlaces)
     (status : ℕ) (writer writes faults reports : Device) → 0 < length words
-    → DoesAsked ahead files (map text words) status writer writes faults reports
-    → TraceEnds ahead files (map text words) status writer writes faults reports
-ends_asked text [] ahead files status writer writes faults reports some does = absurd (omega (arith, some))
-ends_asked text (word ∷ words) ahead files status writer writes faults reports some does = inl does
+    → DoesAsked ahead files places (map text words) status writer writes faults reports
+    → TraceEnds ahead files places (map text words) status writer writes faults reports
+ends_asked text [] ahead files places status writer writes faults reports some does = absurd (omega (arith, some))
+ends_asked text (word ∷ words) ahead files places status writer writes faults reports some does = inl does
 
 -- What holds for the kind of an error holds for the kind that is known.
 pub if_known : (known : Option ErrorKind) (kind : ErrorKind) (P : ErrorKind → Type 0) → IsKnown known kind → P kind

@@ -25,6 +25,7 @@ use Rattle.trace_words.specs.declared.WordsFault.{WordsFault}
 use Rattle.trace_words.specs.declared.WordsFault.TheVariants as words
 use Rattle.cmd_base.specs.Printed.{printed}
 use Rattle.cmd_base.specs.Known.{IsKnown, KnownFiles, known_files}
+use Rattle.svc_places.specs.Places.{KnownPlaces}
 use Rattle.tai_status.specs.Causes.{cause_of, cause_note}
 use Rattle.tai_status.specs.declared.cause.Cause.{Cause}
 use Rattle.cmd_base.specs.Usage.{usage_text}
@@ -179,17 +180,17 @@ pub record EndsWithText (times : Times) (file : Option (List ℕ)) (at : Option 
   pub text_is : IsKnown file text
   pub ends : TextEnds times text at status writer writes faults reports
 
--- A file is not known to be there. It is reported that it can't be read, and why, and nothing is written. The cause is
--- that of the read's fault, by its number and kind. It is not a lack of memory.
-pub record ReportsUnread (files : KnownFiles) (file : List ℕ) (status : ℕ) (writer writes faults reports : Device)
+-- The file at a path is not known to be there. It is reported by its name that it can't be read, and why, and nothing is
+-- written. The cause is that of the read's fault, by its number and kind. It is not a lack of memory.
+pub record ReportsUnread (files : KnownFiles) (path name : List ℕ) (status : ℕ) (writer writes faults reports : Device)
     : Type 0 where
   pub number : Option ℤ
   pub kind : ErrorKind
-  pub unknown : files.bytes file ≡ None
-  pub fault : IsKnown (files.fault file) kind
+  pub unknown : files.bytes path ≡ None
+  pub fault : IsKnown (files.fault path) kind
   pub room : kind ≢ OutOfMemory
   pub unwritten : writes ≡ writer
-  pub reported : Reports faults reports (unread_text file (cause_of number kind))
+  pub reported : Reports faults reports (unread_text name (cause_of number kind))
   pub status_is : status ≡ 111
 
 -- It is reported why a file is not read: there was no memory, if the error says so; otherwise that it can't be read.
@@ -216,41 +217,46 @@ abbrev pub known_in : {F : Type 0} → (file_at : F → List ℕ → Option (Lis
     (fault_at : F → List ℕ → Option ErrorKind) (files : F) → KnownFiles
 known_in file_at fault_at files = known_files (file_at files) (fault_at files)
 
--- How `trace` ends for the file at this path and this break.
-abbrev pub PathEnds : (times : Times) (files : KnownFiles) (path : List ℕ) (at : Option Break) (status : ℕ)
+-- How `trace` ends for the file at this path, with this name in reports, and this break.
+abbrev pub PathEnds : (times : Times) (files : KnownFiles) (path name : List ℕ) (at : Option Break) (status : ℕ)
     (writer writes faults reports : Device) → Type 0
-PathEnds times files path at status writer writes faults reports =
+PathEnds times files path name at status writer writes faults reports =
     EndsWithText times (files.bytes path) at status writer writes faults reports
-    ⊎ (ReportsUnread files path status writer writes faults reports
+    ⊎ (ReportsUnread files path name status writer writes faults reports
     ⊎ ReportsNoRoom files path status writer writes faults reports)
 
--- How `trace` ends for the trace of the service in this folder.
-abbrev pub FolderEnds : (times : Times) (files : KnownFiles) (folder : List ℕ) (at : Option Break) (status : ℕ)
+-- the path of the trace of the service in a folder
+abbrev pub trace_in : (folder : List ℕ) → List ℕ
+trace_in folder = folder ++ codes "/supervise/trace"
+
+-- How `trace` ends for the trace of the service in this folder, which has this name in reports.
+abbrev pub FolderEnds : (times : Times) (files : KnownFiles) (folder name : List ℕ) (at : Option Break) (status : ℕ)
     (writer writes faults reports : Device) → Type 0
-FolderEnds times files folder at status writer writes faults reports =
-    PathEnds times files (folder ++ codes "/supervise/trace") at status writer writes faults reports
+FolderEnds times files folder name at status writer writes faults reports =
+    PathEnds times files (trace_in folder) (trace_in name) at status writer writes faults reports
     ⊎ ReportsStarved status writer writes faults reports
 
 -- There is a folder at this path, not a file.
-pub record EndsWithFolder (times : Times) (files : KnownFiles) (folder : List ℕ) (at : Option Break) (status : ℕ)
+pub record EndsWithFolder (times : Times) (files : KnownFiles) (folder name : List ℕ) (at : Option Break) (status : ℕ)
     (writer writes faults reports : Device) : Type 0 where
   pub fault : IsKnown (files.fault folder) IsADirectory
-  pub ends : FolderEnds times files folder at status writer writes faults reports
+  pub ends : FolderEnds times files folder name at status writer writes faults reports
 
 -- A file can't be read, and it is not a folder.
-pub record ReportsNoFile (files : KnownFiles) (file : List ℕ) (status : ℕ) (writer writes faults reports : Device)
+pub record ReportsNoFile (files : KnownFiles) (path name : List ℕ) (status : ℕ) (writer writes faults reports : Device)
     : Type 0 where
-  pub unread : ReportsUnread files file status writer writes faults reports
+  pub unread : ReportsUnread files path name status writer writes faults reports
   pub no_folder : unread.kind ≢ IsADirectory
 
--- How `trace` ends for this file and this break, or for the service in this folder.
-abbrev pub FileEnds : (times : Times) (files : KnownFiles) (file : List ℕ) (at : Option Break) (status : ℕ)
+-- How `trace` ends for the file at this path, or for the service in the folder there, with this name in reports, and this
+-- break.
+abbrev pub FileEnds : (times : Times) (files : KnownFiles) (path name : List ℕ) (at : Option Break) (status : ℕ)
     (writer writes faults reports : Device) → Type 0
-FileEnds times files file at status writer writes faults reports =
-    EndsWithText times (files.bytes file) at status writer writes faults reports
-    ⊎ (ReportsNoFile files file status writer writes faults reports
-    ⊎ (ReportsNoRoom files file status writer writes faults reports
-    ⊎ EndsWithFolder times files file at status writer writes faults reports))
+FileEnds times files path name at status writer writes faults reports =
+    EndsWithText times (files.bytes path) at status writer writes faults reports
+    ⊎ (ReportsNoFile files path name status writer writes faults reports
+    ⊎ (ReportsNoRoom files path status writer writes faults reports
+    ⊎ EndsWithFolder times files path name at status writer writes faults reports))
 
 -- The words ask for nothing: nothing is written, and the usage is reported.
 pub record ReportsUsage (words : List (List ℕ)) (status : ℕ) (writer writes faults reports : Device) : Type 0 where
@@ -259,14 +265,28 @@ pub record ReportsUsage (words : List (List ℕ)) (status : ℕ) (writer writes 
   pub reported : Reports faults reports (usage_text command.Trace)
   pub status_is : status ≡ 100
 
+-- A word names this path, which is read. Reports have the word.
+pub record EndsAtPlace (times : Times) (files : KnownFiles) (place : Option (List ℕ)) (word : List ℕ)
+    (at : Option Break) (status : ℕ) (writer writes faults reports : Device) : Type 0 where
+  pub path : List ℕ
+  pub named : IsKnown place path
+  pub ends : FileEnds times files path word at status writer writes faults reports
+
+-- How `trace` ends for the file or the folder that this word names, and this break.
+abbrev pub WordEnds : (times : Times) (files : KnownFiles) (places : KnownPlaces) (word : List ℕ) (at : Option Break)
+    (status : ℕ) (writer writes faults reports : Device) → Type 0
+WordEnds times files places word at status writer writes faults reports =
+    EndsAtPlace times files (places word) word at status writer writes faults reports
+    ⊎ ReportsStarved status writer writes faults reports
+
 -- What the words ask for was done, or there was trouble with it.
-pub record DoesAsked (ahead : ℤ → ℤ) (files : KnownFiles) (words : List (List ℕ)) (status : ℕ)
+pub record DoesAsked (ahead : ℤ → ℤ) (files : KnownFiles) (places : KnownPlaces) (words : List (List ℕ)) (status : ℕ)
     (writer writes faults reports : Device) : Type 0 where
   pub file : List ℕ
   pub at : Option Break
   pub local : Bool
   pub asked : AskFor words file at local
-  pub ends : FileEnds (times_asked ahead local) files file at status writer writes faults reports
+  pub ends : WordEnds (times_asked ahead local) files places file at status writer writes faults reports
 
 -- what is reported about words that were not read: the usage if they are wrong, and otherwise the lack of memory
 abbrev pub words_text : WordsFault → List ℕ
@@ -280,10 +300,11 @@ words_status words.OutOfMemory = 111
 
 -- How `trace` ends, by what its words ask for, if clocks are ahead of UTC by this much. No words at all ask for
 -- nothing.
-abbrev pub TraceEnds : (ahead : ℤ → ℤ) (files : KnownFiles) (words : List (List ℕ)) (status : ℕ)
+abbrev pub TraceEnds : (ahead : ℤ → ℤ) (files : KnownFiles) (places : KnownPlaces) (words : List (List ℕ)) (status : ℕ)
     (writer writes faults reports : Device) → Type 0
-TraceEnds ahead files [] status writer writes faults reports = ReportsUsage [] status writer writes faults reports
-TraceEnds ahead files (word ∷ words) status writer writes faults reports =
-    DoesAsked ahead files (word ∷ words) status writer writes faults reports
+TraceEnds ahead files places [] status writer writes faults reports =
+    ReportsUsage [] status writer writes faults reports
+TraceEnds ahead files places (word ∷ words) status writer writes faults reports =
+    DoesAsked ahead files places (word ∷ words) status writer writes faults reports
     ⊎ (ReportsUsage (word ∷ words) status writer writes faults reports
     ⊎ ReportsStarved status writer writes faults reports)

@@ -1,9 +1,9 @@
 //! The command `trace`.
-ghost use Rattle.std.specs.Prelude.{◌≡◌, ◌++◌, OnOk, IfErr, IfOk, codes, string_bytes};
+ghost use Rattle.std.specs.Prelude.{◌≡◌, OnOk, IfErr, IfOk, string_bytes};
 ghost use Rattle.tai_status.specs.Counted.{Works, Reports};
 ghost use Rattle.cmd_local.specs.Ends.{texts};
 ghost use Rattle.cmd_trace.specs.Traced.{FileEnds, FolderEnds, PathEnds, Shows, ReportsMissed, TextEnds, TraceCause};
-ghost use Rattle.cmd_trace.specs.Traced.{TraceEnds, known_in, times_asked, times_in};
+ghost use Rattle.cmd_trace.specs.Traced.{TraceEnds, WordEnds, known_in, times_asked, times_in, trace_in};
 ghost use Rattle.cmd_trace.specs.Traced.{refused_text, trouble_text};
 ghost use Rattle.cmd_trace.specs.Traced.{unread_text};
 ghost use Rattle.cmd_trace.specs.Traced.{words_status, words_text};
@@ -20,6 +20,7 @@ use cmd_local::Zone;
 use std::alloc::{AllocError, Allocator, Global};
 use std::io::{Error, ErrorKind, Write};
 use sup_trace::{Break, TraceFault, kind_name, read_text};
+use svc_places::ServicePlaces;
 use tai_status::{Cause, Output};
 use trace_words::{WordsFault, parse_words};
 
@@ -96,23 +97,24 @@ fn show_bytes<A: Allocator + Clone + Copy, W: Write, E: Write, Z: Zone>(
     }
 }
 
-/// Prints what the text in a file says, with the local times of a zone if there is one. Returns the exit status: that
-/// of `show_bytes`, and 111 for a file that can't be read.
+/// Prints what the text in the file at a path says, with the local times of a zone if there is one. In reports the file
+/// has a name. Returns the exit status: that of `show_bytes`, and 111 for a file that can't be read.
 fn trace_path<R: FileSource, W: Write, E: Write, Z: Zone>(
     files: &R,
     alloc: Global,
     zone: Option<&Z>,
     path: &str,
+    name: &str,
     at: Option<Break>,
     writer: &mut Output<W>,
     faults: &mut Output<E>,
 ) -> u8
-    ensures ends { PathEnds (times_in Z.ahead_at zone.entry) (known_in R.file_at R.fault_at files.now) path.now at
-        result writer.old writer.new faults.old faults.new }
+    ensures ends { PathEnds (times_in Z.ahead_at zone.entry) (known_in R.file_at R.fault_at files.now) path.now name.now
+        at result writer.old writer.new faults.old faults.new }
 {
     match files.read_file(alloc, path) {
         Ok(text) => show_bytes(alloc, zone, &text, at, writer, faults),
-        Err(error) => report_missed(&error, path, faults),
+        Err(error) => report_missed(&error, name, faults),
     }
 }
 
@@ -122,48 +124,78 @@ fn trace_folder<R: FileSource, W: Write, E: Write, Z: Zone>(
     alloc: Global,
     zone: Option<&Z>,
     folder: &str,
+    name: &str,
     at: Option<Break>,
     writer: &mut Output<W>,
     faults: &mut Output<E>,
 ) -> u8
-    ensures ends { FolderEnds (times_in Z.ahead_at zone.entry) (known_in R.file_at R.fault_at files.now) folder.now at
-        result writer.old writer.new faults.old faults.new }
+    ensures ends { FolderEnds (times_in Z.ahead_at zone.entry) (known_in R.file_at R.fault_at files.now) folder.now
+        name.now at result writer.old writer.new faults.old faults.new }
 {
-    match trace_in(alloc, folder) {
-        Ok(path) => trace_path(files, alloc, zone, path.as_str(), at, writer, faults),
-        Err(_) => report_trouble(TraceTrouble::OutOfMemory, faults),
+    match (trace_in(alloc, folder), trace_in(alloc, name)) {
+        (Ok(path), Ok(name)) => trace_path(
+            files,
+            alloc,
+            zone,
+            path.as_str(),
+            name.as_str(),
+            at,
+            writer,
+            faults,
+        ),
+        _ => report_trouble(TraceTrouble::OutOfMemory, faults),
     }
 }
 
 /// Returns the path of the trace of the service in a folder.
 fn trace_in<A: Allocator>(alloc: A, folder: &str) -> Result<String<A>, AllocError>
-    ensures { IfOk result (λ path. string_bytes path ≡ folder.now ++ codes "/supervise/trace") }
+    ensures { IfOk result (λ path. string_bytes path ≡ trace_in folder.now) }
 {
     let mut path = String::from_str(alloc, folder)?;
     path.push_str("/supervise/trace")?;
     Ok(path)
 }
 
-/// Prints what the text in a file says, or for a folder what the trace of the service in it says. Uses the local times
-/// of a zone if there is one. Returns the exit status.
+/// Prints what the text in the file at a path says, or for a folder what the trace of the service in it says. Uses the
+/// local times of a zone if there is one. In reports the file has a name. Returns the exit status.
 fn trace_file<R: FileSource, W: Write, E: Write, Z: Zone>(
     files: &R,
     alloc: Global,
     zone: Option<&Z>,
-    file: &str,
+    path: &str,
+    name: &str,
     at: Option<Break>,
     writer: &mut Output<W>,
     faults: &mut Output<E>,
 ) -> u8
-    ensures ends { FileEnds (times_in Z.ahead_at zone.entry) (known_in R.file_at R.fault_at files.now) file.now at
-        result writer.old writer.new faults.old faults.new }
+    ensures ends { FileEnds (times_in Z.ahead_at zone.entry) (known_in R.file_at R.fault_at files.now) path.now name.now
+        at result writer.old writer.new faults.old faults.new }
 {
-    match files.read_file(alloc, file) {
+    match files.read_file(alloc, path) {
         Ok(text) => show_bytes(alloc, zone, &text, at, writer, faults),
         Err(error) if error.kind() == ErrorKind::IsADirectory => {
-            trace_folder(files, alloc, zone, file, at, writer, faults)
+            trace_folder(files, alloc, zone, path, name, at, writer, faults)
         }
-        Err(error) => report_missed(&error, file, faults),
+        Err(error) => report_missed(&error, name, faults),
+    }
+}
+
+/// Does the same for the file or the folder that a word names, with the word in reports.
+fn trace_word<R: FileSource + ServicePlaces, W: Write, E: Write, Z: Zone>(
+    files: &R,
+    alloc: Global,
+    zone: Option<&Z>,
+    word: &str,
+    at: Option<Break>,
+    writer: &mut Output<W>,
+    faults: &mut Output<E>,
+) -> u8
+    ensures ends { WordEnds (times_in Z.ahead_at zone.entry) (known_in R.file_at R.fault_at files.now)
+        (R.place_at files.now) word.now at result writer.old writer.new faults.old faults.new }
+{
+    match files.place(alloc, word) {
+        Ok(path) => trace_file(files, alloc, zone, path.as_str(), word, at, writer, faults),
+        Err(_) => report_trouble(TraceTrouble::OutOfMemory, faults),
     }
 }
 
@@ -216,12 +248,12 @@ fn zone_asked<Z: Zone>(zone: &Z, local: bool) -> Option<&Z>
 /// machine after them. With `--local`, it prints the local times of a zone in place of labels, and words in place of
 /// the digits of records. With `--break`, it only prints the number of the first entry that SPEC names, as `read_break`
 /// reads it, with or without `--local`. If FILE is a folder, it is that of a service, and the trace of that service is
-/// used.
+/// used. A word may also name a service elsewhere, as [`ServicePlaces`] finds it.
 ///
 /// Returns the exit status: 0; 100 for wrong words; 111 for a file that can't be read, a text that is refused, a lack
 /// of memory, and a fault of the writer. Words are checked before SPEC, SPEC before the file, and the file before its
 /// text.
-pub fn run_trace<R: FileSource, W: Write, E: Write, Z: Zone>(
+pub fn run_trace<R: FileSource + ServicePlaces, W: Write, E: Write, Z: Zone>(
     files: &R,
     alloc: Global,
     zone: &Z,
@@ -229,8 +261,8 @@ pub fn run_trace<R: FileSource, W: Write, E: Write, Z: Zone>(
     writer: &mut Output<W>,
     faults: &mut Output<E>,
 ) -> u8
-    ensures ends { TraceEnds (Z.ahead_at zone.now) (known_in R.file_at R.fault_at files.now) (texts words.now)
-        result writer.old writer.new faults.old faults.new }
+    ensures ends { TraceEnds (Z.ahead_at zone.now) (known_in R.file_at R.fault_at files.now) (R.place_at files.now)
+        (texts words.now) result writer.old writer.new faults.old faults.new }
 {
     if words.is_empty() {
         return usage(faults, Command::Trace);
@@ -240,7 +272,7 @@ pub fn run_trace<R: FileSource, W: Write, E: Write, Z: Zone>(
         Err(fault) => return report_words(fault, faults),
     };
     match read_spec(asked.at) {
-        Ok(at) => trace_file(
+        Ok(at) => trace_word(
             files,
             alloc,
             zone_asked(zone, asked.local),

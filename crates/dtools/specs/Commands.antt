@@ -5,6 +5,7 @@ use Rattle.cmd_base.specs.Console.{Console}
 use Rattle.cmd_base.specs.Known.{KnownFiles}
 use Rattle.cmd_base.specs.declared.command.Command.{Command}
 use Rattle.cmd_base.specs.declared.command.Command.TheVariants as command
+use Rattle.svc_places.specs.Places.{KnownPlaces}
 use Rattle.cmd_sim.specs.Ends.{SimEnds}
 use Rattle.cmd_trace.specs.Traced.{TraceEnds}
 use Rattle.cmd_filters.specs.Stamped.{StampsEnd}
@@ -47,13 +48,15 @@ PlainEnds command.Version words status old new =
 PlainEnds other words status old new = ⊤
 
 -- The commands that know local times, from the number of seconds by which clocks are ahead of UTC, at each second of
--- Unix time. One of them also reads files, which may be known.
+-- Unix time. One of them also reads files, which may be known, at the paths that words name.
 abbrev pub ZonedEnds : Command → (words : List (List ℕ)) (status : ℕ) (ahead : ℤ → ℤ) (files : KnownFiles)
-    (old new : Equipment) → Type 0
-ZonedEnds command.Tai64nlocal words status ahead files old new = LocalEnds ahead words status old.console new.console
-ZonedEnds command.Trace words status ahead files old new =
-    TraceEnds ahead files words status old.console.writer new.console.writer old.console.faults new.console.faults
-ZonedEnds other words status ahead files old new = ⊤
+    (places : KnownPlaces) (old new : Equipment) → Type 0
+ZonedEnds command.Tai64nlocal words status ahead files places old new =
+    LocalEnds ahead words status old.console new.console
+ZonedEnds command.Trace words status ahead files places old new =
+    TraceEnds ahead files places words status old.console.writer new.console.writer old.console.faults
+    new.console.faults
+ZonedEnds other words status ahead files places old new = ⊤
 
 -- Only `envdir` hands over commands to start, from the folders and the variables of the system.
 abbrev pub ChildEnds : Command → (words : List (List ℕ)) (status : ℕ) (system : SystemState)

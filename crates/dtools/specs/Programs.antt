@@ -2,6 +2,7 @@
 use Rattle.std.specs.Prelude.{◌≡◌, ℕ, ℤ, List, [], ◌∷◌, ◌++◌, codes, Option, Some, None, ⊤}
 use Rattle.tai_status.specs.Counted.{Reports}
 use Rattle.cmd_base.specs.Known.{KnownFiles}
+use Rattle.svc_places.specs.Places.{KnownPlaces}
 use Rattle.cmd_envdir.specs.System.{Launch, SystemState}
 use Rattle.cmd_base.specs.Commands.{command_named}
 use Rattle.cmd_base.specs.declared.command.Command.{Command}
@@ -46,9 +47,9 @@ PlainProgram words status old new =
     (λ command words. PlainEnds command words status old new)
 
 abbrev pub ZonedProgram : (words : List (List ℕ)) (status : ℕ) (ahead : ℤ → ℤ) (files : KnownFiles)
-    (old new : Equipment) → Type 0
-ZonedProgram words status ahead files old new =
-    ByWords words ⊤ ⊤ (λ command words. ZonedEnds command words status ahead files old new)
+    (places : KnownPlaces) (old new : Equipment) → Type 0
+ZonedProgram words status ahead files places old new =
+    ByWords words ⊤ ⊤ (λ command words. ZonedEnds command words status ahead files places old new)
 
 abbrev pub ChildProgram : (words : List (List ℕ)) (status : ℕ) (system : SystemState) (past now : Option (List Launch))
     (old new : Equipment) → Type 0

@@ -26,6 +26,7 @@ use cmd_why::{LocalTimes, ServiceEvidence, ServiceFiles, run_why};
 use mlog_core::PartedInput;
 use std::io::{Read, Write};
 use std::sync::Wait;
+use svc_places::ServicePlaces;
 use tai_status::{Output, TimeSource};
 
 /// Runs a command over the words after its name, and returns its exit status. A logger has an input of its own.
@@ -43,7 +44,7 @@ fn run_command<R, L, K, I, S, P, V, T, Z, D, W, E, C>(
     devices: &mut Devices<D, W, E, S, C>,
 ) -> u8
 where
-    R: FileSource + EnvSystem + ServiceFiles + CountFiles + AllocGlobal,
+    R: FileSource + ServicePlaces + EnvSystem + ServiceFiles + CountFiles + AllocGlobal,
     L: Launcher,
     K: LogSystem + Drop,
     I: PartedInput,
@@ -62,7 +63,7 @@ where
     ensures leaves { Leaves command devices.old devices.new }
     ensures plain { PlainEnds command (texts words.now) result devices.old devices.new }
     ensures zoned { ZonedEnds command (texts words.now) result (Z.ahead_at zone.now)
-        (known_files (R.file_at rt.now) (R.fault_at rt.now)) devices.old devices.new }
+        (known_files (R.file_at rt.now) (R.fault_at rt.now)) (R.place_at rt.now) devices.old devices.new }
     ensures child { ChildEnds command (texts words.now) result (R.state rt.now)
         (L.calls launcher.old) (L.calls launcher.new) devices.old devices.new }
     ensures logs { LoggerEnds command (texts words.now) result store.old store.new
@@ -151,7 +152,7 @@ pub fn run<R, L, K, I, S, P, V, T, Z, D, W, E, C>(
     devices: &mut Devices<D, W, E, S, C>,
 ) -> u8
 where
-    R: FileSource + EnvSystem + ServiceFiles + CountFiles + AllocGlobal,
+    R: FileSource + ServicePlaces + EnvSystem + ServiceFiles + CountFiles + AllocGlobal,
     L: Launcher,
     K: LogSystem + Drop,
     I: PartedInput,
@@ -170,7 +171,7 @@ where
     ensures leaves { LeftAlone (texts words.now) devices.old devices.new }
     ensures plain { PlainProgram (texts words.now) result devices.old devices.new }
     ensures zoned { ZonedProgram (texts words.now) result (Z.ahead_at zone.now)
-        (known_files (R.file_at rt.now) (R.fault_at rt.now)) devices.old devices.new }
+        (known_files (R.file_at rt.now) (R.fault_at rt.now)) (R.place_at rt.now) devices.old devices.new }
     ensures child { ChildProgram (texts words.now) result (R.state rt.now)
         (L.calls launcher.old) (L.calls launcher.new) devices.old devices.new }
     ensures logs { LoggerProgram (texts words.now) result store.old store.new

@@ -12,7 +12,7 @@ returns-in-Err g c =
     record {
       ends = inr (inr (inr (record {
         fault = subst (λ (kind : ErrorKind).
-            IsKnown (g.R.FileSource.fault_at c.args.files.now c.args.file.now) kind) is c.in-Err.ensures.fault;
+            IsKnown (g.R.FileSource.fault_at c.args.files.now c.args.path.now) kind) is c.in-Err.ensures.fault;
         ends = c.trace_folder.ensures.ends;
       })));
     }
