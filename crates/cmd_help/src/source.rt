@@ -4,4 +4,4 @@
 pub(crate) const KIT: &str = "rattle-kit-13f logic dac8208d650f15bf";
 
 /// The sum of its sources, as packaging/source-sum says it.
-pub(crate) const SOURCE: &str = "608c8d67455d2ee8133ee9184a945ed1842db80c46cb2224fefbf8cb89e789a8";
+pub(crate) const SOURCE: &str = "803ee4a36bcd18d03d96e17ec09cd347f6913bb2e6a42ffcdb1795490f0c1a25";
