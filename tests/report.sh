@@ -73,45 +73,71 @@ record() {
   object "$1" "$3" s
 }
 
+# standing NAME DIGITS WANTED: the same of a record that changed in the first second of 2001, without counts and a last end
+past='since=978307200 starts=null deaths=null last=null'
+standing() { record "$1" "$2" "$3 $past"; }
+
 listen s
-record 'up' "${label}671200000075" \
+standing 'up' "${label}671200000075" \
   'up=true pid=4711 seconds="S" phase=null want="up" paused=false normally="up" exiting=null finishing=false'
-record 'paused, wanted down' "${label}671200000164" \
+standing 'paused, wanted down' "${label}671200000164" \
   'up=true pid=4711 seconds="S" phase=null want="down" paused=true normally="up" exiting=null finishing=false'
-record 'down' "${label}000000000064" \
+standing 'down' "${label}000000000064" \
   'up=false pid=null seconds="S" phase=null want="down" paused=false normally="up" exiting=null finishing=false'
-record 'down, once' "${label}000000000000" \
+standing 'down, once' "${label}000000000000" \
   'up=false pid=null seconds="S" phase=null want="once" paused=false normally="up" exiting=null finishing=false'
-record 'the greatest process number' "${label}ffffffff0075" \
+standing 'the greatest process number' "${label}ffffffff0075" \
   'up=true pid=4294967295 seconds="S" phase=null want="up" paused=false normally="up" exiting=null finishing=false'
 record 'in the future' 7fffffffffffffff00000000671200000075 \
-  'up=true pid=4711 seconds=0 phase=null want="up" paused=false normally="up" exiting=null finishing=false'
-record 'starting' "${label}0000000000750000" \
+  'up=true pid=4711 seconds=0 phase=null want="up" paused=false normally="up" exiting=null finishing=false since=4611686018427387893 starts=null deaths=null last=null'
+standing 'starting' "${label}0000000000750000" \
   'up=false pid=null seconds="S" phase="starting" want="up" paused=false normally="up" exiting=false finishing=false'
-record 'settling' "${label}6712000000750001" \
+standing 'settling' "${label}6712000000750001" \
   'up=true pid=4711 seconds="S" phase="settling" want="up" paused=false normally="up" exiting=false finishing=false'
-record 'resting' "${label}0000000000750002" \
+standing 'resting' "${label}0000000000750002" \
   'up=false pid=null seconds="S" phase="resting" want="up" paused=false normally="up" exiting=false finishing=false'
-record 'phase up, exiting' "${label}6712000001640103" \
+standing 'phase up, exiting' "${label}6712000001640103" \
   'up=true pid=4711 seconds="S" phase="up" want="down" paused=true normally="up" exiting=true finishing=false'
 : >s/down
-record 'phase down, a file down' "${label}0000000000640004" \
+standing 'phase down, a file down' "${label}0000000000640004" \
   'up=false pid=null seconds="S" phase="down" want="down" paused=false normally="down" exiting=false finishing=false'
 rm s/down
-record 'gone' "${label}0000000000640105" \
+standing 'gone' "${label}0000000000640105" \
   'up=false pid=null seconds="S" phase="gone" want="down" paused=false normally="up" exiting=true finishing=false'
 # A file finish, and a process that lives or does not: no process has the greatest number.
 : >s/finish
-record 'its process has ended, and it has a finish' "${label}ffffffff00750003" \
+standing 'its process has ended, and it has a finish' "${label}ffffffff00750003" \
   'up=true pid=4294967295 seconds="S" phase="up" want="up" paused=false normally="up" exiting=false finishing=true'
 is 'finishing: svstat' 's: up (pid 4294967295) N seconds, finishing' "$("$program" svstat s | sed -E 's/ [0-9]+ seconds/ N seconds/')"
 is 'finishing: metrics' 'dtools_service_finishing{service="s"} 1' "$("$program" svstat --metrics s | grep '^dtools_service_finishing')"
-record 'its process lives' "${label}0100000000750003" \
+standing 'its process lives' "${label}0100000000750003" \
   'up=true pid=1 seconds="S" phase="up" want="up" paused=false normally="up" exiting=false finishing=false'
 is 'it lives: metrics' 'dtools_service_finishing{service="s"} 0' "$("$program" svstat --metrics s | grep '^dtools_service_finishing')"
-record 'a finish, and no process' "${label}0000000000640004" \
+standing 'a finish, and no process' "${label}0000000000640004" \
   'up=false pid=null seconds="S" phase="down" want="down" paused=false normally="up" exiting=false finishing=false'
 rm s/finish
+
+# Since when, its counts, and how its last process ended: the lines of counts and exit that docs/FORMATS.md has.
+up='up=true pid=4711 seconds="S" phase=null want="up" paused=false normally="up" exiting=null finishing=false since=978307200'
+printf '7 6\n' >s/supervise/counts
+record 'counts' "${label}671200000075" "$up starts=7 deaths=6 last=null"
+for row in '4710 status 0|{"pid": 4710, "status": 0, "signal": null, "at": 978307201}' \
+  '4294967295 status 255|{"pid": 4294967295, "status": 255, "signal": null, "at": 978307201}' \
+  '4710 signal TERM|{"pid": 4710, "status": null, "signal": 15, "at": 978307201}' \
+  '4710 signal SEGV|{"pid": 4710, "status": null, "signal": 11, "at": 978307201}' \
+  '4710 signal 64|{"pid": 4710, "status": null, "signal": 64, "at": 978307201}' \
+  '4710 unknown|{"pid": 4710, "status": null, "signal": null, "at": 978307201}' \
+  '4710 status 256|null' '4710 status -1|null' '4710 signal 15|null' '4710 signal term|null' 'x status 0|null' '|null'; do
+  IFS='|' read -r words wanted <<<"$row"
+  printf '%s @400000003a4fc88b00000000\n' "$words" >s/supervise/exit
+  object "last: $words" "$up starts=7 deaths=6 last=$(python3 -c '
+import json, sys
+print(json.dumps(json.loads(sys.argv[1], object_pairs_hook=list)))' "$wanted")" s
+done
+rm s/supervise/exit s/supervise/counts
+mkfifo s/supervise/exit
+object 'last: a pipe' "$up starts=null deaths=null last=null" s
+rm s/supervise/exit
 
 # What can't be looked at: the words of svstat's own line.
 for row in "Length|" "Length|${label}67120000007500" "BadLabel|400000003a4fc88a3b9aca00671200000075" \
@@ -186,12 +212,13 @@ phases() {
   for phase in starting settling up down resting gone; do echo "phase[$phase] 0 $([ "$phase" = "$1" ] && echo 1 || echo 0)"; done
 }
 
-# measured NAME DIGITS UP PHASE WANTED PAUSED SECONDS: the samples of s if its status has these bytes
+# measured NAME DIGITS UP PHASE WANTED PAUSED SECONDS [SINCE]: the samples of s if its status has these bytes
 measured() {
   bytes "$2" >s/supervise/status
   metrics "metrics: $1" "supervised 0 1
 up 0 $3
 seconds 0 $7
+since_timestamp_seconds 0 ${8-978307200}
 ${4:+$(phases "$4")
 }wanted_up 0 $5
 paused 0 $6
@@ -201,7 +228,7 @@ chmod 755 s/supervise
 measured 'up' "${label}671200000075" 1 '' 1 0 S
 measured 'paused, wanted down' "${label}671200000164" 1 '' 0 1 S
 measured 'once' "${label}000000000000" 0 '' 0 0 S
-measured 'in the future' 7fffffffffffffff00000000671200000075 1 '' 1 0 0
+measured 'in the future' 7fffffffffffffff00000000671200000075 1 '' 1 0 0 4611686018427387893
 measured 'starting' "${label}0000000000750000" 0 starting 1 0 S
 measured 'settling' "${label}6712000000750001" 1 settling 1 0 S
 measured 'resting' "${label}0000000000750002" 0 resting 1 0 S
@@ -221,6 +248,7 @@ bytes "${label}671200000075" >s/supervise/status
 some='supervised 0 1
 up 0 1
 seconds 0 S
+since_timestamp_seconds 0 978307200
 wanted_up 0 1
 paused 0 0
 finishing 0 0'
@@ -244,13 +272,23 @@ rm s/supervise/counts
 mkdir s/supervise/counts
 metrics 'counts: a folder' "$some" s
 rmdir s/supervise/counts
+
+# The last end.
+for row in '4710 status 0|last_exit_status 0 0' '4710 status 111|last_exit_status 0 111' '4710 signal KILL|last_signal 0 9' \
+  '4710 signal 64|last_signal 0 64' '4710 unknown|' '4710 status 256|' '|'; do
+  IFS='|' read -r words wanted <<<"$row"
+  printf '%s @400000003a4fc88b00000000\n' "$words" >s/supervise/exit
+  metrics "last: $words" "$some${wanted:+
+$wanted}" s
+done
 printf '7 6\n' >s/supervise/counts
 bytes "${label}671200000078" >s/supervise/status
-metrics 'counts beside a bad record' 'supervised 0 1' s
-rm s/supervise/status s/supervise/counts
+metrics 'counts and an end beside a bad record' 'supervised 0 1' s
+object 'counts and an end beside a bad record: object' 'error="bad status record: WantByte"' s
+rm s/supervise/status s/supervise/counts s/supervise/exit
 
 # Names of any bytes: what is said of each when nobody is there, and when its record is read.
-up='up=true pid=4711 seconds="S" phase="up" want="up" paused=false normally="up" exiting=false finishing=false'
+up="up=true pid=4711 seconds=\"S\" phase=\"up\" want=\"up\" paused=false normally=\"up\" exiting=false finishing=false $past"
 names=('a b' '"' '\' '\"' "'" '{"path":"x"}' $'a\nb' $'\n' $'\t\r\b\f' $'\x01\x1f\x7f' '\u0041' '--json' '-x' 'grün' '日本' '🦀'
   $'\xe2\x80\xa8' "$(printf 'n%.0s' $(seq 255))" "$(printf '"%.0s' $(seq 255))" "$(printf '\\%.0s' $(seq 255))"
   "$(printf 'é%.0s' $(seq 127))")
@@ -275,6 +313,7 @@ metrics 'metrics: all names' "$(
   each supervised 1
   each up 1
   each seconds S
+  each since_timestamp_seconds 978307200
   for phase in starting settling up down resting gone; do each "phase[$phase]" $([ $phase = up ] && echo 1 || echo 0); done
   each wanted_up 1
   each paused 0
@@ -321,6 +360,13 @@ is 'kept: up and supervised' '1 1' \
 "$program" svc -d services/web
 for _ in $(seq 1500); do [[ $(kept) == 'down '* ]] && break; sleep 0.02; done
 is 'brought down' 'down 0 down False None' "$(kept)"
+is 'brought down: its counts and its last end' "1 1 $pid None 15 True" "$("$program" svstat --json services/web | python3 -c '
+import json, sys, time
+said = json.loads(sys.stdin.readline())
+last = said["last"]
+print(said["starts"], said["deaths"], last["pid"], last["status"], last["signal"], time.time() - 60 < last["at"] <= said["since"])')"
+is 'brought down: metrics' 'dtools_service_last_signal{service="services/web"} 15' \
+  "$("$program" svstat --metrics services/web | grep '^dtools_service_last_')"
 "$program" svc -x services/web
 for _ in $(seq 1500); do [[ $(kept) == *'supervise not running' ]] && break; sleep 0.02; done
 is 'let go' 'None 0 None None supervise not running' "$(kept)"

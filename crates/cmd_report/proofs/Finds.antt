@@ -3,9 +3,9 @@ use Rattle.std.proofs.Common.{◌≡◌, ℕ, List, [], ◌∷◌, ◌++◌, ref
 use Rattle.std.proofs.lemmas.List.{map-append}
 use Rattle.cmd_svc.specs.Sight.{Sight}
 use Rattle.cmd_report.specs.declared.found.Found.{Found}
-use Rattle.cmd_report.specs.MetricsEnds.{CountFiles, FindsAll, FindsOne, FindsWords, folders_of}
+use Rattle.cmd_report.specs.Finds.{Files, FindsAll, FindsOne, FindsWords, folders_of}
 
-finds_all-then : (files : CountFiles) (founds : List Found) (found : Found) (old middle new : Sight)
+finds_all-then : (files : Files) (founds : List Found) (found : Found) (old middle new : Sight)
     → FindsAll files founds old middle → FindsOne files found middle new → FindsAll files (founds ++ found ∷ []) old new
 finds_all-then files [] found old middle new done one =
     (new, (subst (λ (s : Sight). FindsOne files found s new) done one, refl))
@@ -13,7 +13,7 @@ finds_all-then files (first ∷ founds) found old middle new done one =
     (done.0, (done.1.0, finds_all-then files founds found done.0 middle new done.1.1 one))
 
 -- One more service
-pub finds_words-then : (files : CountFiles) (words : List (List ℕ)) (founds : List Found) (word : List ℕ)
+pub finds_words-then : (files : Files) (words : List (List ℕ)) (founds : List Found) (word : List ℕ)
     (found : Found)
     (old middle new : Sight) → FindsWords files words founds old middle → found.folder.now ≡ word
     → FindsOne files found middle new → FindsWords files (words ++ word ∷ []) (founds ++ found ∷ []) old new

@@ -1,5 +1,6 @@
 -- A look at a service as a JSON object (RFC 8259): the tokens of its text.
-use Rattle.std.specs.Prelude.{◌≡◌, ℕ, Bool, false, if◌then◌else◌, List, [], ◌∷◌, ◌++◌, codes, decimal}
+use Rattle.std.specs.Prelude.{◌≡◌, ℕ, Bool, false, if◌then◌else◌, List, [], ◌∷◌, ◌++◌, codes, decimal, Option, Some}
+use Rattle.std.specs.Prelude.{None}
 use Rattle.json.specs.Token.{Token, begin_object, end_object, key, string, number, boolean, null}
 use Rattle.json.specs.Print.{print}
 use Rattle.json.specs.Written.{Written}
@@ -17,6 +18,10 @@ use Rattle.cmd_svc.specs.declared.services.Unreached.{Unreached}
 use Rattle.cmd_svc.specs.declared.services.Unreached.TheVariants as unreached
 use Rattle.cmd_svc.specs.declared.look.Look.{Look}
 use Rattle.cmd_svc.specs.declared.look.Look.TheVariants as look
+use Rattle.svc_exit.specs.declared.exit.Exit.{Exit}
+use Rattle.cmd_report.specs.Metrics.{deaths_in, signal_of, starts_in, status_of, unix_second}
+use Rattle.cmd_report.specs.declared.counts.Counts.{Counts}
+use Rattle.cmd_report.specs.declared.found.Found.{Found}
 
 -- These tokens were written after those that were there.
 pub record Adds (old new : Written) (more : List Token) : Type 0 where
@@ -53,6 +58,11 @@ number_member name value = key name ∷ number (decimal value) ∷ []
 unfoldable pub null_member : (name : List ℕ) → List Token
 null_member name = key name ∷ null ∷ []
 
+-- a number, if it is known
+unfoldable pub known_member : (name : List ℕ) → Option ℕ → List Token
+known_member name None = null_member name
+known_member name (Some value) = number_member name value
+
 -- a process number, if there is one
 unfoldable pub pid_member : Status → List Token
 pid_member status = if is_running status then number_member (codes "pid") status.pid else null_member (codes "pid")
@@ -85,6 +95,27 @@ standing_members loaded normally_up now =
     ++ asked_members (status_in loaded) normally_up
     ++ exiting_member loaded
 
+-- a process that ended: its number, the status or the signal by which it ended if that is known, and the Unix time
+unfoldable pub ended_members : Exit → List Token
+ended_members exit =
+    number_member (codes "pid") exit.pid
+    ++ known_member (codes "status") (status_of exit.ending)
+    ++ known_member (codes "signal") (signal_of exit.ending)
+    ++ number_member (codes "at") (unix_second exit.label)
+
+-- the last end, if it is known
+unfoldable pub last_member : Option Exit → List Token
+last_member None = null_member (codes "last")
+last_member (Some exit) = key (codes "last") ∷ begin_object ∷ ended_members exit ++ end_object ∷ []
+
+-- since when a service is in its state, in Unix time; its counts; and its last end
+unfoldable pub past_members : Status → Option Counts → Option Exit → List Token
+past_members status counts last =
+    number_member (codes "since") (unix_second status.label)
+    ++ known_member (codes "starts") (starts_in counts)
+    ++ known_member (codes "deaths") (deaths_in counts)
+    ++ last_member last
+
 -- A service that is not supervised counts as not up.
 unfoldable pub unreached_members : Unreached → List Token
 unreached_members unreached.NotRunning =
@@ -92,19 +123,23 @@ unreached_members unreached.NotRunning =
 unreached_members other = string_member (codes "error") (unreached_text other)
 
 -- the members after the path
-abbrev pub look_members : Look → List Token
-look_members (look.Unreached why) = unreached_members why
-look_members look.Unread = string_member (codes "error") (codes "unable to read status")
-look_members (look.Bad cause) = string_member (codes "error") (codes "bad status record: " ++ fault_name cause)
-look_members (look.Standing loaded normally_up now finishing) =
-    standing_members loaded normally_up now ++ boolean_member (codes "finishing") finishing
+abbrev pub look_members : Look → Option Counts → Option Exit → List Token
+look_members (look.Unreached why) counts last = unreached_members why
+look_members look.Unread counts last = string_member (codes "error") (codes "unable to read status")
+look_members (look.Bad cause) counts last =
+    string_member (codes "error") (codes "bad status record: " ++ fault_name cause)
+look_members (look.Standing loaded normally_up now finishing) counts last =
+    standing_members loaded normally_up now
+    ++ boolean_member (codes "finishing") finishing
+    ++ past_members (status_in loaded) counts last
 
 -- Lines
 
-abbrev pub look_tokens : (folder : List ℕ) → Look → List Token
-look_tokens folder look =
-    begin_object ∷ [] ++ string_member (codes "path") folder ++ look_members look ++ end_object ∷ []
+abbrev pub found_tokens : Found → List Token
+found_tokens found =
+    begin_object ∷ [] ++ string_member (codes "path") found.folder.now
+    ++ look_members found.look found.counts found.last ++ end_object ∷ []
 
--- the line about a look at the service in a folder, without a newline
-abbrev pub json_line : (folder : List ℕ) → Look → List ℕ
-json_line folder look = print (look_tokens folder look)
+-- the line about what was found about a service, without a newline
+abbrev pub json_line : Found → List ℕ
+json_line found = print (found_tokens found)

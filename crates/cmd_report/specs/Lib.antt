@@ -3,5 +3,7 @@ pub mod Laws
 pub mod Ends
 pub mod Counts
 pub mod Metrics
+pub mod Finds
+pub mod JsonEnds
 pub mod MetricsEnds
 pub mod Label

@@ -1,9 +1,9 @@
 -- What is reported about services as metrics, in Prometheus' text exposition format
 -- (prometheus.io/docs/instrumenting/exposition_formats). Each line has a sample. Those of one metric are together,
 -- after its help.
-use Rattle.std.specs.Prelude.{ℕ, ◌==◌, Bool, true, false, if◌then◌else◌, List, [], ◌∷◌, ◌++◌, codes, decimal}
+use Rattle.std.specs.Prelude.{ℕ, ◌-◌, ◌==◌, Bool, true, false, if◌then◌else◌, List, [], ◌∷◌, ◌++◌, codes, decimal}
 use Rattle.std.specs.Prelude.{flat_map, bytes_eq, Option, Some, None}
-use Rattle.tai_status.specs.Label.{Tai64n}
+use Rattle.tai_status.specs.Label.{Tai64n, from_unix}
 use Rattle.tai_status.specs.Record.{flag_byte}
 use Rattle.tai_status.specs.Loading.{status_in}
 use Rattle.tai_status.specs.Phase.{phase_name}
@@ -14,6 +14,9 @@ use Rattle.tai_status.specs.declared.loading.Loaded.TheVariants.{Old, New}
 use Rattle.cmd_svc.specs.Line.{is_running, seconds, wants_up}
 use Rattle.cmd_svc.specs.declared.look.Look.{Look}
 use Rattle.cmd_svc.specs.declared.look.Look.TheVariants as look
+use Rattle.svc_exit.specs.declared.ending.Ending.{Ending}
+use Rattle.svc_exit.specs.declared.ending.Ending.TheVariants.{Status, Signal}
+use Rattle.svc_exit.specs.declared.exit.Exit.{Exit}
 use Rattle.cmd_report.specs.declared.counts.Counts.{Counts}
 use Rattle.cmd_report.specs.declared.found.Found.{Found}
 use Rattle.cmd_report.specs.declared.samples.Sample.{Sample}
@@ -31,9 +34,14 @@ abbrev pub phase_value : Phase → Loaded → Option ℕ
 phase_value phase (Old status) = None
 phase_value phase (New full) = Some (flag_byte (bytes_eq (phase_name full.phase) (phase_name phase)))
 
+-- the second of Unix time of a label, or 0 if it is before 1970 UTC
+abbrev pub unix_second : Tai64n → ℕ
+unix_second label = label.sec - (from_unix 0 0).sec
+
 abbrev pub standing_value : Sample → Loaded → (now : Tai64n) → Option ℕ
 standing_value sample.Up loaded now = Some (flag_byte (is_running (status_in loaded)))
 standing_value sample.Seconds loaded now = Some (seconds (status_in loaded) now)
+standing_value sample.Since loaded now = Some (unix_second (status_in loaded).label)
 standing_value (sample.InPhase phase) loaded now = phase_value phase loaded
 standing_value sample.WantedUp loaded now = Some (flag_byte (wants_up (status_in loaded).want))
 standing_value sample.Paused loaded now = Some (flag_byte (status_in loaded).paused)
@@ -52,11 +60,30 @@ abbrev pub deaths_in : Option Counts → Option ℕ
 deaths_in None = None
 deaths_in (Some counts) = Some counts.deaths
 
+-- the status with which a process exited, and the number of the signal that ended it
+abbrev pub status_of : Ending → Option ℕ
+status_of (Status code) = Some code
+status_of other = None
+
+abbrev pub signal_of : Ending → Option ℕ
+signal_of (Signal number) = Some number
+signal_of other = None
+
+abbrev pub status_of_last : Option Exit → Option ℕ
+status_of_last None = None
+status_of_last (Some exit) = status_of exit.ending
+
+abbrev pub signal_of_last : Option Exit → Option ℕ
+signal_of_last None = None
+signal_of_last (Some exit) = signal_of exit.ending
+
 -- the value of a sample of a service, if there is one
 unfoldable pub value_in : Sample → Found → Option ℕ
 value_in sample.Supervised found = Some (flag_byte (is_supervised found.look))
 value_in sample.Starts found = starts_in found.counts
 value_in sample.Deaths found = deaths_in found.counts
+value_in sample.LastStatus found = status_of_last found.last
+value_in sample.LastSignal found = signal_of_last found.last
 value_in other found = look_value other found.look
 
 -- Text
@@ -77,12 +104,15 @@ abbrev pub metric_name : Sample → List ℕ
 metric_name sample.Supervised = codes "dtools_service_supervised"
 metric_name sample.Up = codes "dtools_service_up"
 metric_name sample.Seconds = codes "dtools_service_seconds"
+metric_name sample.Since = codes "dtools_service_since_timestamp_seconds"
 metric_name (sample.InPhase phase) = codes "dtools_service_phase"
 metric_name sample.WantedUp = codes "dtools_service_wanted_up"
 metric_name sample.Paused = codes "dtools_service_paused"
 metric_name sample.Finishing = codes "dtools_service_finishing"
 metric_name sample.Starts = codes "dtools_service_starts_total"
 metric_name sample.Deaths = codes "dtools_service_deaths_total"
+metric_name sample.LastStatus = codes "dtools_service_last_exit_status"
+metric_name sample.LastSignal = codes "dtools_service_last_signal"
 
 -- the labels of a sample after that of its service
 unfoldable pub more_labels : Sample → List ℕ
@@ -116,6 +146,9 @@ head_text sample.Up = codes "# HELP dtools_service_up Whether the service runs."
 head_text sample.Seconds =
     codes "# HELP dtools_service_seconds Seconds since the last start or end of its process." ++ 10 ∷ []
     ++ codes "# TYPE dtools_service_seconds gauge" ++ 10 ∷ []
+head_text sample.Since =
+    codes "# HELP dtools_service_since_timestamp_seconds Unix time of the last start or end of its process." ++ 10 ∷ []
+    ++ codes "# TYPE dtools_service_since_timestamp_seconds gauge" ++ 10 ∷ []
 head_text (sample.InPhase phase.Starting) =
     codes "# HELP dtools_service_phase Whether supervision of the service is in this phase." ++ 10 ∷ []
     ++ codes "# TYPE dtools_service_phase gauge" ++ 10 ∷ []
@@ -130,6 +163,12 @@ head_text sample.Starts =
     ++ codes "# TYPE dtools_service_starts_total counter" ++ 10 ∷ []
 head_text sample.Deaths = codes "# HELP dtools_service_deaths_total Ends of its process since svscan began." ++ 10 ∷ []
     ++ codes "# TYPE dtools_service_deaths_total counter" ++ 10 ∷ []
+head_text sample.LastStatus =
+    codes "# HELP dtools_service_last_exit_status Status of its last process that ended, if that exited." ++ 10 ∷ []
+    ++ codes "# TYPE dtools_service_last_exit_status gauge" ++ 10 ∷ []
+head_text sample.LastSignal =
+    codes "# HELP dtools_service_last_signal Signal that ended its last process that ended, if one did." ++ 10 ∷ []
+    ++ codes "# TYPE dtools_service_last_signal gauge" ++ 10 ∷ []
 head_text other = []
 
 -- a sample of each service that has it
@@ -139,9 +178,10 @@ sample_lines sample founds = head_text sample ++ flat_map (sample_line sample) f
 -- all samples, with those of one metric together
 abbrev pub all_samples : List Sample
 all_samples =
-    sample.Supervised ∷ sample.Up ∷ sample.Seconds ∷ sample.InPhase phase.Starting ∷ sample.InPhase phase.Settling
-    ∷ sample.InPhase phase.Up ∷ sample.InPhase phase.Down ∷ sample.InPhase phase.Resting ∷ sample.InPhase phase.Gone
-    ∷ sample.WantedUp ∷ sample.Paused ∷ sample.Finishing ∷ sample.Starts ∷ sample.Deaths ∷ []
+    sample.Supervised ∷ sample.Up ∷ sample.Seconds ∷ sample.Since ∷ sample.InPhase phase.Starting
+    ∷ sample.InPhase phase.Settling ∷ sample.InPhase phase.Up ∷ sample.InPhase phase.Down ∷ sample.InPhase phase.Resting ∷ sample.InPhase phase.Gone
+    ∷ sample.WantedUp ∷ sample.Paused ∷ sample.Finishing ∷ sample.Starts ∷ sample.Deaths ∷ sample.LastStatus
+    ∷ sample.LastSignal ∷ []
 
 unfoldable pub metrics_text : List Found → List ℕ
 metrics_text founds = flat_map (λ sample. sample_lines sample founds) all_samples

@@ -1,21 +1,24 @@
 //! The command `svstat`, in each of its forms.
 ghost use Rattle.cmd_svc.specs.Words.{texts};
 ghost use Rattle.cmd_report.specs.Ends.{ReportEnds};
+ghost use Rattle.cmd_report.specs.Finds.{report_files};
 
-use crate::objects::run_json;
+use crate::lines::run_json;
 use crate::report::run_metrics;
 use crate::sources::CountFiles;
 use cmd_svc::{Observer, Services, run_svstat};
+use cmd_why::Evidence;
 use std::alloc::Allocator;
 use std::io::Write;
 use tai_status::{Output, TimeSource};
 
 /// The command `svstat`. If its first word is `--json`, it works as [`run_json`], and if that is `--metrics`, as
 /// [`run_metrics`], over the words after that one. Otherwise it works as [`run_svstat`], over all words.
-pub fn run_report<S, F, A, W, E, C>(
+pub fn run_report<S, F, K, A, W, E, C>(
     alloc: A,
     observer: &mut Observer<S, C>,
-    files: &F,
+    counts: &F,
+    sources: &K,
     words: &[&str],
     writer: &mut Output<W>,
     faults: &mut Output<E>,
@@ -23,17 +26,20 @@ pub fn run_report<S, F, A, W, E, C>(
 where
     S: Services,
     F: CountFiles,
+    K: Evidence,
     A: Allocator + Clone,
     W: Write,
     E: Write,
     C: TimeSource,
-    ensures ends { ReportEnds (F.counts_at files.now) (texts words.now) result
+    ensures ends { ReportEnds (report_files (F.counts_at counts.now) (K.known sources.now)) (texts words.now) result
         observer.old observer.new writer.old writer.new faults.old faults.new }
 {
     match words {
-        ["--json", folders @ ..] => run_json(alloc, observer, folders, writer, faults),
+        ["--json", folders @ ..] => {
+            run_json(alloc, observer, counts, sources, folders, writer, faults)
+        }
         ["--metrics", folders @ ..] => {
-            run_metrics(alloc, observer, files, folders, writer, faults)
+            run_metrics(alloc, observer, counts, sources, folders, writer, faults)
         }
         _ => run_svstat(alloc, observer, words, writer, faults),
     }

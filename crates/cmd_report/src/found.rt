@@ -1,6 +1,7 @@
-//! What is found about a service: a look at it, and its counts.
+//! What is found about a service: a look at it, its counts, and its last end.
 use crate::counts::Counts;
 use cmd_svc::Look;
+use svc_exit::Exit;
 
 /// What was found about the service in a folder.
 #[derive(Clone, Copy, Debug)]
@@ -9,4 +10,6 @@ pub struct Found<'a> {
     pub look: Look,
     /// Its counts, if its status was read and its file `counts` has them.
     pub counts: Option<Counts>,
+    /// How its last process ended, if its status was read and its file `exit` says it.
+    pub last: Option<Exit>,
 }

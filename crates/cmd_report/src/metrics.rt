@@ -10,10 +10,11 @@ use std::alloc::{AllocError, Allocator};
 use tai_status::{Phase, phase_name};
 
 /// All samples, with those of one metric together.
-const SAMPLES: [Sample; 14] = [
+const SAMPLES: [Sample; 17] = [
     Sample::Supervised,
     Sample::Up,
     Sample::Seconds,
+    Sample::Since,
     Sample::InPhase(Phase::Starting),
     Sample::InPhase(Phase::Settling),
     Sample::InPhase(Phase::Up),
@@ -25,6 +26,8 @@ const SAMPLES: [Sample; 14] = [
     Sample::Finishing,
     Sample::Starts,
     Sample::Deaths,
+    Sample::LastStatus,
+    Sample::LastSignal,
 ];
 
 /// Returns what was found about services, in the text exposition format of Prometheus

@@ -1,22 +1,24 @@
-//! The line about a look as a JSON object.
+//! What was found about a service as a JSON object.
 ghost use Rattle.std.specs.Prelude.{◌≡◌, ◌++◌, codes, IfOk, OnOk};
 ghost use Rattle.json.specs.Lex.{tokens};
-ghost use Rattle.cmd_svc.specs.Words.{texts};
 ghost use Rattle.cmd_svc.specs.Line.{is_running};
-ghost use Rattle.cmd_svc.specs.Svstat.{SvstatEnds, fault_name};
-ghost use Rattle.cmd_report.specs.Json.{Adds, asked_members, boolean_member, exiting_member, json_line, look_members};
-ghost use Rattle.cmd_report.specs.Json.{look_tokens, null_member, number_member, phase_member, pid_member};
-ghost use Rattle.cmd_report.specs.Json.{process_members, side_name, standing_members, string_member, unreached_text};
-ghost use Rattle.cmd_report.specs.Json.{unreached_members, want_name};
+ghost use Rattle.cmd_svc.specs.Svstat.{fault_name};
+ghost use Rattle.cmd_report.specs.Json.{Adds, asked_members, boolean_member, ended_members, exiting_member, found_tokens};
+ghost use Rattle.cmd_report.specs.Json.{json_line, known_member, last_member, look_members, null_member, number_member};
+ghost use Rattle.cmd_report.specs.Json.{past_members, phase_member, pid_member, process_members, side_name};
+ghost use Rattle.cmd_report.specs.Json.{standing_members, string_member, unreached_text, unreached_members, want_name};
 
-use cmd_svc::{LineForm, Look, Observer, Services, Unreached, run_svstat_as};
+use crate::counts::Counts;
+use crate::found::Found;
+use crate::samples::{deaths_in, signal_of, starts_in, status_of, unix_second};
+use cmd_svc::{Look, Unreached};
 use json::Writer;
 use std::alloc::{AllocError, Allocator};
-use std::io::Write;
-use tai_status::{Label, Loaded, Output, RecordFault, TimeSource, View, Want, phase_name};
+use svc_exit::Exit;
+use tai_status::{Label, Loaded, RecordFault, View, Want, phase_name};
 
-/// Returns a look at the service in a folder as one JSON object (RFC 8259), without a newline. If its status was read,
-/// the object has these members, in this order:
+/// Returns what was found about a service as one JSON object (RFC 8259), without a newline. If its status was read, the
+/// object has these members, in this order:
 ///
 /// - `path`: the folder, as it was given;
 /// - `up`: whether it runs;
@@ -28,24 +30,26 @@ use tai_status::{Label, Loaded, Output, RecordFault, TimeSource, View, Want, pha
 /// - `paused`: whether it is paused;
 /// - `normally`: `down` if its folder has a file `down`, and otherwise `up`;
 /// - `exiting`: whether supervise is to end, or `null` for a record of 18 bytes, which does not say it;
-/// - `finishing`: whether its process has ended, and its `finish` runs.
+/// - `finishing`: whether its process has ended, and its `finish` runs;
+/// - `since`: the Unix time of its last change of process, in whole seconds;
+/// - `starts`, `deaths`: how often a process of it was started, and died, since svscan began, or `null` if its file
+///   `counts` does not say it;
+/// - `last`: how its last process ended, or `null` if its file `exit` does not say it. This is an object. Its members are
+///   the process number `pid`, the exit `status`, the number of the `signal` that ended it, and the Unix time `at` which
+///   it was found to have ended. The status and the signal are `null` if they do not apply.
 ///
 /// Otherwise there are `path` and `error`: what svstat's line has after the folder and `: `.
 ///
 /// In a string, `"`, `\` and bytes below 32 are escaped, and everything else is unchanged. Returns `AllocError` only if
 /// the allocator refuses the memory for the line.
-pub fn json_line<A: Allocator>(
-    alloc: A,
-    folder: &str,
-    look: &Look,
-) -> Result<Vec<u8, A>, AllocError>
-    ensures text { IfOk result (λ line. line.items ≡ json_line folder.now look.now) }
-    ensures reads_back { IfOk result (λ line. tokens line.items ≡ look_tokens folder.now look.now) }
+pub fn json_line<A: Allocator>(alloc: A, found: &Found) -> Result<Vec<u8, A>, AllocError>
+    ensures text { IfOk result (λ line. line.items ≡ json_line found.now) }
+    ensures reads_back { IfOk result (λ line. tokens line.items ≡ found_tokens found.now) }
 {
     let mut writer = Writer::new(Vec::new(alloc));
     writer.begin_object()?;
-    add_string(&mut writer, "path", folder)?;
-    add_members(&mut writer, look)?;
+    add_string(&mut writer, "path", found.folder)?;
+    add_members(&mut writer, found)?;
     writer.end_object()?;
     Ok(writer.into_inner())
 }
@@ -98,11 +102,26 @@ fn add_null<A: Allocator>(writer: &mut Writer<A>, name: &str) -> Result<(), Allo
     writer.null()
 }
 
-/// Writes the members of a look, after its path.
-fn add_members<A: Allocator>(writer: &mut Writer<A>, look: &Look) -> Result<(), AllocError>
-    ensures { OnOk result (Adds writer.old writer.new (look_members look.now)) }
+/// Writes a member that is a number, or `null` if that is not known.
+#[tactic(auto, unfolding(crate::specs::Json::known_member))]
+fn add_known<A: Allocator>(
+    writer: &mut Writer<A>,
+    name: &str,
+    value: Option<u64>,
+) -> Result<(), AllocError>
+    ensures { OnOk result (Adds writer.old writer.new (known_member name.now value)) }
 {
-    match look {
+    match value {
+        Some(value) => add_number(writer, name, value),
+        None => add_null(writer, name),
+    }
+}
+
+/// Writes the members after the path.
+fn add_members<A: Allocator>(writer: &mut Writer<A>, found: &Found) -> Result<(), AllocError>
+    ensures { OnOk result (Adds writer.old writer.new (look_members found.now.look found.now.counts found.now.last)) }
+{
+    match &found.look {
         Look::Unreached(why) => add_unreached(writer, *why),
         Look::Unread => add_string(writer, "error", "unable to read status"),
         Look::Bad(fault) => add_string(writer, "error", bad_text(*fault)),
@@ -113,9 +132,53 @@ fn add_members<A: Allocator>(writer: &mut Writer<A>, look: &Look) -> Result<(), 
             finishing,
         } => {
             add_standing(writer, loaded, *normally_up, now)?;
-            add_boolean(writer, "finishing", *finishing)
+            add_boolean(writer, "finishing", *finishing)?;
+            add_past(writer, &loaded.view(), found.counts, found.last)
         }
     }
+}
+
+/// Writes since when a service is in its state, its counts, and its last end.
+#[tactic(auto, unfolding(crate::specs::Json::past_members))]
+fn add_past<A: Allocator>(
+    writer: &mut Writer<A>,
+    view: &View,
+    counts: Option<Counts>,
+    last: Option<Exit>,
+) -> Result<(), AllocError>
+    ensures { OnOk result (Adds writer.old writer.new (past_members view.now counts last)) }
+{
+    add_number(writer, "since", unix_second(view.label))?;
+    add_known(writer, "starts", starts_in(counts))?;
+    add_known(writer, "deaths", deaths_in(counts))?;
+    add_last(writer, last)
+}
+
+/// Writes the last end of a service, if it is known.
+#[tactic(auto, unfolding(crate::specs::Json::last_member))]
+fn add_last<A: Allocator>(writer: &mut Writer<A>, last: Option<Exit>) -> Result<(), AllocError>
+    ensures { OnOk result (Adds writer.old writer.new (last_member last)) }
+{
+    match last {
+        Some(exit) => {
+            writer.key("last")?;
+            writer.begin_object()?;
+            add_ended(writer, &exit)?;
+            writer.end_object()
+        }
+        None => add_null(writer, "last"),
+    }
+}
+
+/// Writes which process ended, how, and when.
+#[tactic(auto, unfolding(crate::specs::Json::ended_members))]
+fn add_ended<A: Allocator>(writer: &mut Writer<A>, exit: &Exit) -> Result<(), AllocError>
+    ensures { OnOk result (Adds writer.old writer.new (ended_members exit.now)) }
+{
+    add_number(writer, "pid", u64::from(exit.pid))?;
+    add_known(writer, "status", status_of(exit.ending))?;
+    add_known(writer, "signal", signal_of(exit.ending))?;
+    add_number(writer, "at", unix_second(exit.label))
 }
 
 /// Writes why nothing is known about a service. One that is not supervised counts as not up.
@@ -261,41 +324,4 @@ fn add_exiting<A: Allocator>(writer: &mut Writer<A>, loaded: &Loaded) -> Result<
         Loaded::Old(_) => add_null(writer, "exiting"),
         Loaded::New(full) => add_boolean(writer, "exiting", full.exiting),
     }
-}
-
-/// The form of `svstat --json`.
-pub struct JsonLine;
-
-impl LineForm for JsonLine {
-    ghost line_of = { λ _ folder look. json_line folder look };
-
-    fn line<A: Allocator + Clone>(
-        &self,
-        alloc: A,
-        folder: &str,
-        look: &Look,
-    ) -> Result<Vec<u8, A>, AllocError> {
-        json_line(alloc, folder, look)
-    }
-}
-
-/// The command `svstat --json`: as [`run_svstat`](cmd_svc::run_svstat), with the line of [`json_line`] in place of
-/// svstat's.
-pub fn run_json<S, A, W, E, C>(
-    alloc: A,
-    observer: &mut Observer<S, C>,
-    words: &[&str],
-    writer: &mut Output<W>,
-    faults: &mut Output<E>,
-) -> u8
-where
-    S: Services,
-    A: Allocator + Clone,
-    W: Write,
-    E: Write,
-    C: TimeSource,
-    ensures ends { SvstatEnds json_line (texts words.now) result
-        observer.old observer.new writer.old writer.new faults.old faults.new }
-{
-    run_svstat_as(&JsonLine, alloc, observer, words, writer, faults)
 }

@@ -1,5 +1,6 @@
 //! The command `svstat --metrics`.
 ghost use Rattle.cmd_svc.specs.Words.{texts};
+ghost use Rattle.cmd_report.specs.Finds.{report_files};
 ghost use Rattle.cmd_report.specs.MetricsEnds.{MetricsEnds};
 
 use crate::find::find_all;
@@ -7,6 +8,7 @@ use crate::metrics::metrics_text;
 use crate::sources::CountFiles;
 use cmd_base::DONE;
 use cmd_svc::{Observer, Services, SvstatFault, report_svstat, tell_missing};
+use cmd_why::Evidence;
 use std::alloc::Allocator;
 use std::io::Write;
 use tai_status::{Output, TimeSource};
@@ -15,10 +17,11 @@ use tai_status::{Output, TimeSource};
 /// what was found as [`metrics_text`] does. Then it reports for each folder that does not exist why.
 ///
 /// Returns the exit status: 0; 111 for a lack of memory, and then nothing was written; 111 for a fault of the writer.
-pub fn run_metrics<S, F, A, W, E, C>(
+pub fn run_metrics<S, F, K, A, W, E, C>(
     alloc: A,
     observer: &mut Observer<S, C>,
-    files: &F,
+    counts: &F,
+    sources: &K,
     words: &[&str],
     writer: &mut Output<W>,
     faults: &mut Output<E>,
@@ -26,17 +29,18 @@ pub fn run_metrics<S, F, A, W, E, C>(
 where
     S: Services,
     F: CountFiles,
+    K: Evidence,
     A: Allocator + Clone,
     W: Write,
     E: Write,
     C: TimeSource,
-    ensures ends { MetricsEnds (F.counts_at files.now) (texts words.now) result
+    ensures ends { MetricsEnds (report_files (F.counts_at counts.now) (K.known sources.now)) (texts words.now) result
         observer.old observer.new writer.old writer.new faults.old faults.new }
 {
     let Ok(own) = alloc.clone() else {
         return report_svstat(SvstatFault::OutOfMemory, writer, faults);
     };
-    let Ok(founds) = find_all(own, observer, files, words) else {
+    let Ok(founds) = find_all(own, observer, counts, sources, words) else {
         return report_svstat(SvstatFault::OutOfMemory, writer, faults);
     };
     let Ok(text) = metrics_text(alloc, &founds) else {

@@ -3,11 +3,13 @@ ghost use Rattle.std.specs.Prelude.{◌≡◌};
 ghost use Rattle.tai_status.specs.Record.{flag_byte};
 ghost use Rattle.cmd_svc.specs.Line.{is_running, wants_up};
 ghost use Rattle.cmd_report.specs.Metrics.{deaths_in, head_text, is_supervised, look_value, metric_name, phase_value};
-ghost use Rattle.cmd_report.specs.Metrics.{standing_value, starts_in, value_in};
+ghost use Rattle.cmd_report.specs.Metrics.{signal_of, signal_of_last, standing_value, starts_in, status_of};
+ghost use Rattle.cmd_report.specs.Metrics.{status_of_last, unix_second, value_in};
 
 use crate::counts::Counts;
 use crate::found::Found;
 use cmd_svc::Look;
+use svc_exit::{Ending, Exit};
 use tai_status::{Label, Loaded, Phase, View, Want, phase_name};
 
 /// A sample that a service has of a metric.
@@ -19,6 +21,8 @@ pub enum Sample {
     Up,
     /// Whole seconds since its last change of process.
     Seconds,
+    /// The Unix time of its last change of process.
+    Since,
     /// Whether supervise is in this phase.
     InPhase(Phase),
     /// Whether it is to be up.
@@ -31,11 +35,16 @@ pub enum Sample {
     Starts,
     /// How often it died since svscan began.
     Deaths,
+    /// The status with which its last process exited.
+    LastStatus,
+    /// The number of the signal that ended its last process.
+    LastSignal,
 }
 
 /// Returns the value of a sample of a service, if there is one. There always is one for `Supervised`. There is one for
-/// `Starts` and `Deaths` if its counts were read, for a phase if its record has 20 bytes, and for the others if its
-/// status was read.
+/// `Starts` and `Deaths` if its counts were read, and for `LastStatus` and `LastSignal` if it is known that its last
+/// process ended in that way. There is one for a phase if its record has 20 bytes, and for the others if its status was
+/// read.
 #[tactic(auto, unfolding(crate::specs::Metrics::value_in))]
 pub fn value_in(sample: Sample, found: &Found) -> Option<u64>
     ensures { result ≡ value_in sample found.now }
@@ -44,6 +53,8 @@ pub fn value_in(sample: Sample, found: &Found) -> Option<u64>
         Sample::Supervised => Some(flag(is_supervised(&found.look))),
         Sample::Starts => starts_in(found.counts),
         Sample::Deaths => deaths_in(found.counts),
+        Sample::LastStatus => status_of_last(found.last),
+        Sample::LastSignal => signal_of_last(found.last),
         _ => look_value(sample, &found.look),
     }
 }
@@ -66,7 +77,7 @@ fn is_supervised(look: &Look) -> bool
 }
 
 /// Returns how many starts are counted.
-fn starts_in(counts: Option<Counts>) -> Option<u64>
+pub(crate) fn starts_in(counts: Option<Counts>) -> Option<u64>
     ensures { result ≡ starts_in counts }
 {
     match counts {
@@ -76,11 +87,51 @@ fn starts_in(counts: Option<Counts>) -> Option<u64>
 }
 
 /// Returns how many deaths are counted.
-fn deaths_in(counts: Option<Counts>) -> Option<u64>
+pub(crate) fn deaths_in(counts: Option<Counts>) -> Option<u64>
     ensures { result ≡ deaths_in counts }
 {
     match counts {
         Some(counts) => Some(counts.deaths),
+        None => None,
+    }
+}
+
+/// Returns the status with which a process exited, if it did.
+pub(crate) fn status_of(ending: Ending) -> Option<u64>
+    ensures { result ≡ status_of ending }
+{
+    match ending {
+        Ending::Status(code) => Some(u64::from(code)),
+        Ending::Signal(_) | Ending::Unknown => None,
+    }
+}
+
+/// Returns the number of the signal that ended a process, if one did.
+pub(crate) fn signal_of(ending: Ending) -> Option<u64>
+    ensures { result ≡ signal_of ending }
+{
+    match ending {
+        Ending::Signal(number) => Some(u64::from(number)),
+        Ending::Status(_) | Ending::Unknown => None,
+    }
+}
+
+/// Returns the status with which the last process exited, if it did.
+fn status_of_last(last: Option<Exit>) -> Option<u64>
+    ensures { result ≡ status_of_last last }
+{
+    match last {
+        Some(exit) => status_of(exit.ending),
+        None => None,
+    }
+}
+
+/// Returns the number of the signal that ended the last process, if one did.
+fn signal_of_last(last: Option<Exit>) -> Option<u64>
+    ensures { result ≡ signal_of_last last }
+{
+    match last {
+        Some(exit) => signal_of(exit.ending),
         None => None,
     }
 }
@@ -103,6 +154,16 @@ fn look_value(sample: Sample, look: &Look) -> Option<u64>
     }
 }
 
+/// Returns the second of Unix time of a label, or 0 if it is before 1970 UTC.
+pub(crate) fn unix_second(label: Label) -> u64
+    ensures { result ≡ unix_second label }
+{
+    match Label::from_unix(0, 0) {
+        Some(epoch) => label.sec.saturating_sub(epoch.sec),
+        None => 0,
+    }
+}
+
 /// Returns the value of a sample that a status has.
 fn standing_value(sample: Sample, loaded: &Loaded, now: &Label) -> Option<u64>
     ensures { result ≡ standing_value sample loaded.now now.now }
@@ -111,10 +172,12 @@ fn standing_value(sample: Sample, loaded: &Loaded, now: &Label) -> Option<u64>
     match sample {
         Sample::Up => Some(flag(is_running(&view))),
         Sample::Seconds => Some(now.sec.saturating_sub(view.label.sec)),
+        Sample::Since => Some(unix_second(view.label)),
         Sample::InPhase(phase) => phase_value(phase, loaded),
         Sample::WantedUp => Some(flag(wants_up(view.want))),
         Sample::Paused => Some(flag(view.paused)),
         Sample::Supervised | Sample::Finishing | Sample::Starts | Sample::Deaths => None,
+        Sample::LastStatus | Sample::LastSignal => None,
     }
 }
 
@@ -153,12 +216,15 @@ pub(crate) fn metric_name(sample: Sample) -> &'static str
         Sample::Supervised => "dtools_service_supervised",
         Sample::Up => "dtools_service_up",
         Sample::Seconds => "dtools_service_seconds",
+        Sample::Since => "dtools_service_since_timestamp_seconds",
         Sample::InPhase(_) => "dtools_service_phase",
         Sample::WantedUp => "dtools_service_wanted_up",
         Sample::Paused => "dtools_service_paused",
         Sample::Finishing => "dtools_service_finishing",
         Sample::Starts => "dtools_service_starts_total",
         Sample::Deaths => "dtools_service_deaths_total",
+        Sample::LastStatus => "dtools_service_last_exit_status",
+        Sample::LastSignal => "dtools_service_last_signal",
     }
 }
 
@@ -181,6 +247,11 @@ pub(crate) fn head_text(sample: Sample) -> &'static str
         Sample::Seconds => {
             "# HELP dtools_service_seconds Seconds since the last start or end of its process.
 # TYPE dtools_service_seconds gauge
+"
+        }
+        Sample::Since => {
+            "# HELP dtools_service_since_timestamp_seconds Unix time of the last start or end of its process.
+# TYPE dtools_service_since_timestamp_seconds gauge
 "
         }
         Sample::InPhase(Phase::Starting) => {
@@ -212,6 +283,16 @@ pub(crate) fn head_text(sample: Sample) -> &'static str
         Sample::Deaths => {
             "# HELP dtools_service_deaths_total Ends of its process since svscan began.
 # TYPE dtools_service_deaths_total counter
+"
+        }
+        Sample::LastStatus => {
+            "# HELP dtools_service_last_exit_status Status of its last process that ended, if that exited.
+# TYPE dtools_service_last_exit_status gauge
+"
+        }
+        Sample::LastSignal => {
+            "# HELP dtools_service_last_signal Signal that ended its last process that ended, if one did.
+# TYPE dtools_service_last_signal gauge
 "
         }
     }

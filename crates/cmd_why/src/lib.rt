@@ -25,4 +25,4 @@ pub use lines::{Absence, Drawing, Found, Picture, Standing, absence_of, found_li
 pub use sentences::why_line;
 pub use sources::{Evidence, LocalTime, LocalTimes, ServiceEvidence, ServiceFiles};
 pub use timeline::{Bar, COLUMNS, Shown, Stretch, bar_of};
-pub use why::{WhyFault, run_why};
+pub use why::{WhyFault, read_exit, run_why};

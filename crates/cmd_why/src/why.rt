@@ -95,7 +95,7 @@ fn facts_in<A: Allocator>(
 }
 
 /// Returns what the file `exit` of the service in a folder says, if it can be read.
-fn read_exit<K: Evidence>(sources: &K, folder: &str) -> Option<Exit>
+pub fn read_exit<K: Evidence>(sources: &K, folder: &str) -> Option<Exit>
     ensures { IsExitOf ((K.known sources.now).exits folder.now) result }
 {
     match sources.read_exit(folder) {

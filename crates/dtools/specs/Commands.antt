@@ -21,7 +21,7 @@ use Rattle.cmd_svc.specs.Sight.{Sight}
 use Rattle.cmd_svc.specs.Svc.{effects, SvcEnds}
 use Rattle.cmd_svc.specs.Svok.{SvokEnds}
 use Rattle.cmd_report.specs.Ends.{ReportEnds}
-use Rattle.cmd_report.specs.MetricsEnds.{CountFiles}
+use Rattle.cmd_report.specs.Finds.{Files}
 use Rattle.cmd_why.specs.Texts.{Knowledge}
 use Rattle.cmd_why.specs.Why.{WhyEnds}
 use Rattle.cmd_wait.specs.Steps.{Step, sight}
@@ -75,17 +75,17 @@ LoggerEnds command.Multilog words status shelf shelves feed feeds old new =
     (stage shelves feeds new.sight.readings new.console.faults)
 LoggerEnds other words status shelf shelves feed feeds old new = (shelves ≡ shelf) × (feeds ≡ feed)
 
--- Three of the commands that ask services, and the files with services' counts, if these are known.
-abbrev pub ServiceEnds : Command → (words : List (List ℕ)) (status : ℕ) (counts : CountFiles) (old new : Equipment)
+-- Three of the commands that ask services, and what is known about the files of services.
+abbrev pub ServiceEnds : Command → (words : List (List ℕ)) (status : ℕ) (files : Files) (old new : Equipment)
     → Type 0
-ServiceEnds command.Svc words status counts old new =
+ServiceEnds command.Svc words status files old new =
     SvcEnds words status (effects old.sight.calls old.console.faults) (effects new.sight.calls new.console.faults)
-ServiceEnds command.Svstat words status counts old new =
-    ReportEnds counts words status old.sight new.sight old.console.writer new.console.writer old.console.faults
+ServiceEnds command.Svstat words status files old new =
+    ReportEnds files words status old.sight new.sight old.console.writer new.console.writer old.console.faults
     new.console.faults
-ServiceEnds command.Svok words status counts old new =
+ServiceEnds command.Svok words status files old new =
     SvokEnds words status old.sight.calls new.sight.calls × (new.console ≡ old.console)
-ServiceEnds other words status counts old new = ⊤
+ServiceEnds other words status files old new = ⊤
 
 -- `why`, and what is known about the files of services and about local times.
 abbrev pub ReasonEnds : Command → (words : List (List ℕ)) (status : ℕ) (known : Knowledge) (old new : Equipment)

@@ -2,6 +2,7 @@
 ghost use Rattle.std.specs.Prelude.{◌≡◌, []};
 ghost use Rattle.cmd_base.specs.Known.{known_files};
 ghost use Rattle.cmd_envdir.specs.System.{texts};
+ghost use Rattle.cmd_report.specs.Finds.{report_files};
 ghost use Rattle.cmd_why.specs.Texts.{knowledge};
 ghost use Rattle.tai_status.specs.Counted.{Reports};
 ghost use Rattle.dtools.specs.Commands.{ChildEnds, Leaves, LoggerEnds, PacedEnds, PlainEnds, ReasonEnds, ScanEnds};
@@ -68,8 +69,8 @@ where
         (L.calls launcher.old) (L.calls launcher.new) devices.old devices.new }
     ensures logs { LoggerEnds command (texts words.now) result store.old store.new
         (I.feed lines.old) (I.feed lines.new) devices.old devices.new }
-    ensures services { ServiceEnds command (texts words.now) result (R.counts_at rt.now)
-        devices.old devices.new }
+    ensures services { ServiceEnds command (texts words.now) result
+        (report_files (R.counts_at rt.now) (knowledge (R.texts rt.now) (Z.text_at zone.now))) devices.old devices.new }
     ensures why { ReasonEnds command (texts words.now) result (knowledge (R.texts rt.now) (Z.text_at zone.now))
         devices.old devices.new }
     ensures wait { PacedEnds command (texts words.now) result (T.steps pace.old) (T.steps pace.new)
@@ -99,7 +100,13 @@ where
             return run_multilog(rt.alloc(), store, words, lines, faults, clock);
         }
         Command::Svc => return run_svc(rt.alloc(), &mut observer.services, words, faults),
-        Command::Svstat => return run_report(rt.alloc(), observer, rt, words, writer, faults),
+        Command::Svstat => {
+            let evidence = ServiceEvidence {
+                files: rt,
+                times: zone,
+            };
+            return run_report(rt.alloc(), observer, rt, &evidence, words, writer, faults);
+        }
         Command::Svok => return run_svok(&mut observer.services, words),
         Command::Why => {
             let evidence = ServiceEvidence {
@@ -176,8 +183,8 @@ where
         (L.calls launcher.old) (L.calls launcher.new) devices.old devices.new }
     ensures logs { LoggerProgram (texts words.now) result store.old store.new
         (I.feed lines.old) (I.feed lines.new) devices.old devices.new }
-    ensures services { ServiceProgram (texts words.now) result (R.counts_at rt.now)
-        devices.old devices.new }
+    ensures services { ServiceProgram (texts words.now) result
+        (report_files (R.counts_at rt.now) (knowledge (R.texts rt.now) (Z.text_at zone.now))) devices.old devices.new }
     ensures why { ReasonProgram (texts words.now) result (knowledge (R.texts rt.now) (Z.text_at zone.now))
         devices.old devices.new }
     ensures wait { PacedProgram (texts words.now) result (T.steps pace.old) (T.steps pace.new)
