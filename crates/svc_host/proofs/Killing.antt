@@ -13,6 +13,10 @@ use Rattle.svc_host.specs.declared.kill.Asking.{Asking}
 use Rattle.std.proofs.lemmas.List.{append-nil, append_assoc, length-append}
 use native.Mathlib.Omega.{arith}
 use Rattle.svc_host.specs.Mails.{Mail, WasFull, mail_of}
+use Rattle.svc_house.specs.Standing.{Standing}
+use Rattle.svc_house.specs.Turn.{IsTurn}
+use Rattle.svc_house.specs.declared.turned.Turned.{Turned}
+use Rattle.svc_house.specs.declared.turned.Turned.TheVariants.{Idle, Took}
 use Rattle.svc_host.proofs.Stepping.{mail_same}
 
 abbrev with_mail : Timer → Mail → Timer
@@ -27,6 +31,15 @@ pub refused : {A X Y : Type 0} (Same : Y → Type 0) (timer : Timer) (old new : 
 refused Same timer old new (Ok x) fails is same post see hear full = grind (arith, fails)
 refused Same timer old new (Err fault) fails is same post see hear full =
     inr (ap (with_mail timer) (mail_same old new same post see hear ∙ sym is), subst WasFull (sym is) full.1)
+
+-- what a turn adds to the events of a service
+pub took : {I : Type 0} (old new : Standing I) (turned : Turned) (event : Event) → turned ≡ Took event
+    → IsTurn old turned new → new.events ≡ old.events ++ event ∷ []
+took old new turned event is turn = (subst (λ (turned : Turned). IsTurn old turned new) is turn).events
+
+pub idled : {I : Type 0} (old new : Standing I) (turned : Turned) → turned ≡ Idle → IsTurn old turned new
+    → new.events ≡ old.events
+idled old new turned is turn = (subst (λ (turned : Turned). IsTurn old turned new) is turn).events
 
 -- Nothing happened.
 pub nothing : (events : List Event) (timer : Timer) → KeepsTime events events timer timer

@@ -24,6 +24,8 @@ returns-clause-outside c =
 pub returns-clause-timer : goal.returns-clause-timer
 returns-clause-timer c =
     (last_sender _ _ _ _ _ _
+    (front_senders _ _ _ _ _ _
     (front_senders _ _ _ _ _ _ c.in-Ok.ensures.3 c.in-Some.ensures.items)
-    c.in-Some-pop.ensures.items).0
+    c.in-Some-pop.ensures.items)
+    c.in-Some-pop-2.ensures.items).0
     ∙ sym c.in-Ok.ensures.4.0
