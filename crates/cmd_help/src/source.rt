@@ -4,4 +4,4 @@
 pub(crate) const KIT: &str = "rattle-kit-13f logic dac8208d650f15bf";
 
 /// The sum of its sources, as packaging/source-sum says it.
-pub(crate) const SOURCE: &str = "040059ad09627c4c5ed08c2e2f971bb8908ce0125e60954923a60fa4c1531821";
+pub(crate) const SOURCE: &str = "af992e3a4dedebcde4e4c1dc256a255bbeafa9523f1abafd245e12439ffb04fb";
