@@ -52,6 +52,8 @@ mkdir work
 service all/web
 service all/both
 service all/-u
+service all/--json
+service all/web/log
 service work/both
 service "all/with space"
 service all/$'line\nend'
@@ -69,9 +71,12 @@ ended restart 102 '' "restart: web: supervise not running
 restart: web: $none" restart web
 ended why 111 'web is not supervised: there is no such folder.' "why: web: $none" why web
 ended trace 111 '' "trace: unable to read web: $none" trace web
+ended 'no words' 0 '' '' svstat
+ended '-l' 0 '-l: supervise not running' "svstat: -l: $none" svstat -l
 
 scenario='SVDIR is empty'
 export SVDIR=
+ended 'no words' 0 '' '' svstat
 ended svstat 0 'web: supervise not running' "svstat: web: $none" svstat web
 ended svok 100 '' '' svok web
 ended trace 111 '' "trace: unable to read web: $none" trace web
@@ -132,6 +137,33 @@ ended 'a name like an option' 0 '' '' svok -u
 ended 'svscan itself' 0 '' '' svok .svscan
 ended 'a name that is no text' 0 '' 'svc: warning: unable to control \xff: not running
 svc: \xff: Invalid argument' svc -t $'\xff'
+
+scenario='all services'
+mkdir all/.hidden
+echo no service >all/file
+ln -s "$room/all/web" all/zlink
+ln -s nowhere all/znone
+mkdir 'all/'$'\xff'
+"$program" wait -u -t 60 all/--json all/web/log all/zlink || exit 1
+rows="$room/all/--json: up (pid N) N seconds
+$room/all/-u: up (pid N) N seconds
+$room/all/both: up (pid N) N seconds
+line\x0aend: up (pid N) N seconds
+web: up (pid N) N seconds
+with space: up (pid N) N seconds
+zlink: up (pid N) N seconds"
+ended 'by SVDIR' 0 "$rows" '' svstat
+logger="$room/all/web/log: up (pid N) N seconds"
+ended 'with loggers' 0 "${rows/with space/$logger
+with space}
+$room/all/zlink/log: up (pid N) N seconds" '' svstat -l
+ended 'with another word: no list' 0 "-l: supervise not running
+web: up (pid N) N seconds" "svstat: -l: $none" svstat -l web
+ended 'another command: no list' 100 '' '' svok
+mkdir none
+SVDIR=$room/none ended 'an empty folder' 0 '' '' svstat
+SVDIR=$room/nowhere ended 'no such folder' 111 '' "svstat: unable to read SVDIR: $none" svstat
+SVDIR=$room/all/file ended 'a file' 111 '' 'svstat: unable to read SVDIR: Not a directory' svstat
 
 scenario='other values of SVDIR'
 SVDIR=../all ended relative 0 'web: up (pid N) N seconds' '' svstat web

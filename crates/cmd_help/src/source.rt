@@ -4,4 +4,4 @@
 pub(crate) const KIT: &str = "rattle-kit-13f logic dac8208d650f15bf";
 
 /// The sum of its sources, as packaging/source-sum says it.
-pub(crate) const SOURCE: &str = "3ef458d35b4978bf97a7b94f793d17f6ed43031a1edaac61307039e0afa8ad83";
+pub(crate) const SOURCE: &str = "db89f2ff0de85f45c89010854b0cd20019ea9c0bccaff11966771204bf09256c";

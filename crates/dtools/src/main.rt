@@ -8,7 +8,7 @@ mod command;
 mod devices;
 mod words;
 
-use cmd_base::{REFUSED, SystemClock, TROUBLE, report};
+use cmd_base::{REFUSED, SystemClock, TROUBLE, report, report_device};
 use cmd_envdir::SystemLauncher;
 use cmd_help::page_asked;
 use cmd_local::{LocalZone, system_zone};
@@ -27,7 +27,7 @@ use std::io::{Read, Write};
 use std::process::ExitCode;
 use std::sync::Wait;
 use tai_status::{Counted, Output, TimeSource};
-use words::{WordsFault, program_words};
+use words::{WordsFault, listed_words};
 
 fn main(rt: HostRuntime) -> ExitCode {
     let labels = LineLabels::new();
@@ -84,7 +84,7 @@ where
     C: TimeSource,
     requires { P.ready service_set.old }
 {
-    let texts = match program_words(rt) {
+    let texts = match listed_words(rt) {
         Ok(texts) => texts,
         Err(fault) => return refuse_words(&fault, &mut devices.faults),
     };
@@ -156,5 +156,8 @@ fn refuse_words<E: Write>(fault: &WordsFault, faults: &mut Output<E>) -> u8 {
     match fault {
         WordsFault::OutOfMemory => report(faults, b"dtools: OutOfMemory\n", TROUBLE),
         WordsFault::NoText(line) => report(faults, line.as_bytes(), REFUSED),
+        WordsFault::NoList(cause) => {
+            report_device(faults, b"svstat: ", b"unable to read SVDIR", Some(*cause))
+        }
     }
 }

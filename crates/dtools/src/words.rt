@@ -7,6 +7,8 @@ use std::alloc::{AllocError, Allocator};
 use std::env;
 use std::env::{Env, FillError};
 use std::io::ErrorKind;
+use svc_places::service_words;
+use tai_status::Cause;
 
 /// The bytes of the first buffer for a word, and how many sizes are tried, each twice the one before. A word of Linux
 /// is shorter than the last size (execve(2): 32 pages).
@@ -21,6 +23,8 @@ pub(crate) enum WordsFault {
     OutOfMemory,
     /// A word is not text, and names no service. This is the line that says which one.
     NoText(String),
+    /// The folder of services can't be listed, for this cause.
+    NoList(Cause),
 }
 
 impl From<AllocError> for WordsFault {
@@ -34,7 +38,7 @@ impl From<AllocError> for WordsFault {
 /// If a command names services, a word of it that is not text is replaced by a name that no file has. The command then
 /// reports that this service does not exist, and shows the others. A word that is not text is refused if it begins with
 /// `-`, and for any other command.
-pub(crate) fn program_words(rt: &HostRuntime) -> Result<Vec<String>, WordsFault> {
+fn program_words(rt: &HostRuntime) -> Result<Vec<String>, WordsFault> {
     let all = match env::args(rt) {
         Ok(all) => all,
         Err(fault) if fault.kind() == ErrorKind::OutOfMemory => {
@@ -45,6 +49,41 @@ pub(crate) fn program_words(rt: &HostRuntime) -> Result<Vec<String>, WordsFault>
     let mut words = Vec::new(rt.alloc());
     for word in all.skip(1) {
         push_word(&mut words, word)?;
+    }
+    Ok(words)
+}
+
+/// Returns the words of the program. If they name `svstat` and no service, and there is a folder of services, words that
+/// name all of these are added, and with `-l` their loggers too.
+pub(crate) fn listed_words(rt: &HostRuntime) -> Result<Vec<String>, WordsFault> {
+    let words = program_words(rt)?;
+    let Some(with_loggers) = lists_services(&words) else {
+        return Ok(words);
+    };
+    match service_words(rt, &rt.alloc(), with_loggers) {
+        Ok(None) => Ok(words),
+        Ok(Some(services)) => svstat_of(rt, services),
+        Err(fault) if fault.kind() == ErrorKind::OutOfMemory => Err(WordsFault::OutOfMemory),
+        Err(fault) => Err(WordsFault::NoList(Cause::of(&fault))),
+    }
+}
+
+/// Returns whether words ask for all services with their loggers, or without them. Returns None if they do not ask for
+/// all services.
+fn lists_services(words: &[String]) -> Option<bool> {
+    match words {
+        [command] if command.as_str() == "svstat" => Some(false),
+        [command, option] if command.as_str() == "svstat" && option.as_str() == "-l" => Some(true),
+        _ => None,
+    }
+}
+
+/// Returns the words for `svstat` of services.
+fn svstat_of(rt: &HostRuntime, services: Vec<String>) -> Result<Vec<String>, WordsFault> {
+    let mut words = Vec::new(rt.alloc());
+    push_word(&mut words, String::from_str(rt.alloc(), "svstat")?)?;
+    for service in services {
+        push_word(&mut words, service)?;
     }
     Ok(words)
 }

@@ -111,12 +111,14 @@ impl PartEnds {
         let Ok(shared) = Arc::new(alloc, PartShared::new(alloc, host, activity)?) else {
             return Err(AllocError);
         };
-        let Some(MailboxEnds {
-            inside,
-            outside,
-            timer,
-            receiver,
-        }) = open_mailbox(alloc, capacity)
+        let Some(
+            MailboxEnds {
+                inside,
+                outside,
+                timer,
+                receiver,
+            },
+        ) = open_mailbox(alloc, capacity)
         else {
             return Err(AllocError);
         };

@@ -10,7 +10,7 @@ const VARIABLE: &str = "SVDIR";
 
 /// Returns the folder of services, by its variable. Returns an empty path if the variable is not set, is not text, or is
 /// longer than any path.
-fn services_folder<R: Env>(runtime: &R) -> ServicePath {
+pub(crate) fn services_folder<R: Env>(runtime: &R) -> ServicePath {
     let mut folder = ServicePath::new();
     let mut bytes = [0; PATH_BYTES];
     if let Ok(count) = runtime.var(VARIABLE, &mut bytes) {
@@ -22,7 +22,7 @@ fn services_folder<R: Env>(runtime: &R) -> ServicePath {
 }
 
 /// Returns whether there is a folder at a path.
-fn is_folder<R: Files>(runtime: &R, path: &str) -> bool {
+pub(crate) fn is_folder<R: Files>(runtime: &R, path: &str) -> bool {
     match fs::metadata(runtime, path) {
         Ok(found) => found.is_dir(),
         Err(_) => false,

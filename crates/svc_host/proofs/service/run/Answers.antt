@@ -7,9 +7,13 @@ returns-then-step-clause-keeps g c = along _ _ _ _ _ _ c.loop.invariant.3 c.step
 
 pub loop-preserved : goal.loop-preserved
 loop-preserved g c =
-    let before = c.loop.invariant in
-    (tt, tt, record {
-      station = c.step.ensures.same.station ∙ before.2.station;
-      opening = c.step.ensures.same.opening ∙ before.2.opening;
-      source = c.step.ensures.same.source ∙ before.2.source;
-    }, along _ _ _ _ _ _ before.3 c.step.ensures.keeps)
+    let before = c.loop.invariant in (
+      tt,
+      tt,
+      record {
+        station = c.step.ensures.same.station ∙ before.2.station;
+        opening = c.step.ensures.same.opening ∙ before.2.opening;
+        source = c.step.ensures.same.source ∙ before.2.source;
+      },
+      along _ _ _ _ _ _ before.3 c.step.ensures.keeps,
+    )
