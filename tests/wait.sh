@@ -182,6 +182,12 @@ rm s/supervise/status
 ended 'no status: -u' 111 'wait: s: unable to read status' s
 ended 'no status: -d' 111 'wait: s: unable to read status' -d s
 ended 'no status: -x' 99 'wait: s: still supervised' -x -t 0 s
+# svscan writes the first status just after it has begun to supervise a service.
+ended 'no status in time' 99 'wait: s: not up in time' -t 1 s
+begun 'no status yet' -d -t 100 s
+status s "$label$none"00$down"00$phase_down"
+over 'the first status' 0 ''
+rm s/supervise/status
 mkfifo s/supervise/status
 ended 'a status that is a pipe' 111 'wait: s: unable to read status' s
 rm s/supervise/status

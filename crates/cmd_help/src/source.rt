@@ -4,4 +4,4 @@
 pub(crate) const KIT: &str = "rattle-kit-13f logic dac8208d650f15bf";
 
 /// The sum of its sources, as packaging/source-sum says it.
-pub(crate) const SOURCE: &str = "db89f2ff0de85f45c89010854b0cd20019ea9c0bccaff11966771204bf09256c";
+pub(crate) const SOURCE: &str = "c781fe9b43628b90818ccbcfe3522ed46d508543c127e5b68275bd6cc5e2ebe8";

@@ -8,7 +8,7 @@ use Rattle.tai_status.specs.declared.record.RecordFault.{RecordFault}
 use Rattle.cmd_svc.specs.declared.services.Unreached.TheVariants.{NotRunning, Denied, Unanswered}
 use Rattle.cmd_wait.specs.Finding.{Sighting, Absent, Unread, Shown, SeesAnother, SeesUp, finding_of, record_finding}
 use Rattle.cmd_wait.specs.Finding.{is_another, process_asked}
-use Rattle.cmd_wait.specs.Finding.{has_lasted, is_up, reached_if, unread_finding, unsupervised_finding, unsupervised_in}
+use Rattle.cmd_wait.specs.Finding.{has_lasted, is_up, reached_if, unread_in, unsupervised_finding, unsupervised_in}
 use Rattle.cmd_wait.specs.declared.finding.Goal.{Goal}
 use Rattle.cmd_wait.specs.declared.finding.Mark.{Mark}
 use Rattle.cmd_wait.specs.declared.finding.WaitState.{WaitState}
@@ -68,11 +68,14 @@ never_waits goal up e =
     not_reached goal.awaits_supervision
     (subst (λ (wanted : WaitState). unsupervised_in wanted goal.awaits_supervision ≡ Reached) up e)
 
-unread_fails : {X : Type 0} (wanted : WaitState) → wanted ≡ state.Up → unread_finding wanted ≡ Reached → X
-unread_fails state.Up up e = absurd cc
-unread_fails state.Down up e = absurd cc
-unread_fails state.Unsupervised up e = absurd cc
-unread_fails state.Another up e = absurd cc
+unread_fails : {X : Type 0} (wanted : WaitState) (waits : Bool) → unread_in wanted waits ≡ Reached → X
+unread_fails state.Up true e = absurd cc
+unread_fails state.Up false e = absurd cc
+unread_fails state.Down true e = absurd cc
+unread_fails state.Down false e = absurd cc
+unread_fails state.Unsupervised waits e = absurd cc
+unread_fails state.Another true e = absurd cc
+unread_fails state.Another false e = absurd cc
 
 not_reached_another : {X : Type 0} (awaits : Bool) → unsupervised_in state.Another awaits ≡ Reached → X
 not_reached_another true e = absurd cc
@@ -83,18 +86,12 @@ never_another goal another e =
     not_reached_another goal.awaits_supervision
     (subst (λ (wanted : WaitState). unsupervised_in wanted goal.awaits_supervision ≡ Reached) another e)
 
-unread_another : {X : Type 0} (wanted : WaitState) → wanted ≡ state.Another → unread_finding wanted ≡ Reached → X
-unread_another state.Up another e = absurd cc
-unread_another state.Down another e = absurd cc
-unread_another state.Unsupervised another e = absurd cc
-unread_another state.Another another e = absurd cc
-
 pub up_lasts : (goal : Goal) (mark : Option Mark) (sighting : Sighting) → goal.state ≡ state.Up
     → finding_of goal mark sighting ≡ Reached → SeesUp sighting
 up_lasts goal mark (Absent NotRunning) up e = never_waits goal up e
 up_lasts goal mark (Absent Denied) up e = absurd cc
 up_lasts goal mark (Absent Unanswered) up e = absurd cc
-up_lasts goal mark Unread up e = unread_fails goal.state up e
+up_lasts goal mark (Unread is_missing) up e = unread_fails goal.state (goal.awaits_supervision && is_missing) e
 up_lasts goal mark (Shown bytes age) up e =
     sees mark bytes age (loaded_from bytes) refl
     (subst (λ (wanted : WaitState). record_finding wanted mark (loaded_from bytes) age ≡ Reached) up e)
@@ -104,7 +101,8 @@ pub another_seen : (goal : Goal) (mark : Option Mark) (sighting : Sighting) → 
 another_seen goal mark (Absent NotRunning) another e = never_another goal another e
 another_seen goal mark (Absent Denied) another e = absurd cc
 another_seen goal mark (Absent Unanswered) another e = absurd cc
-another_seen goal mark Unread another e = unread_another goal.state another e
+another_seen goal mark (Unread is_missing) another e =
+    unread_fails goal.state (goal.awaits_supervision && is_missing) e
 another_seen goal mark (Shown bytes age) another e =
     sees_another mark bytes age (loaded_from bytes) refl
     (subst (λ (wanted : WaitState). record_finding wanted mark (loaded_from bytes) age ≡ Reached) another e)

@@ -89,11 +89,12 @@ process_asked state.Up (Ok loaded) = if is_up loaded then Some (status_in loaded
 process_asked state.Another (Ok loaded) = if is_up loaded then Some (status_in loaded).pid else None
 process_asked other read = None
 
--- The results of the calls of a look. The service did not respond, for this reason; or its status could not be read. Or
--- these are its first bytes, and this is the age of its process, if that was asked for and the process lives.
+-- The results of the calls of a look. The service did not respond, for this reason; or its status could not be read, and
+-- may be missing. Or these are its first bytes, and this is the age of its process, if that was asked for and the process
+-- lives.
 pub data Sighting : Type 0 where
   Absent : (why : Unreached) → Sighting
-  Unread : Sighting
+  Unread : (is_missing : Bool) → Sighting
   Shown : (bytes : List ℕ) → (age : Option ℕ) → Sighting
 
 -- the call that asks for the age of a process, if there is one to ask about
@@ -104,7 +105,7 @@ calls_of_age (Some process) age = SoughtAge process age ∷ []
 -- the calls of a look at the service in a folder
 abbrev pub calls_of_look : Goal → (folder : List ℕ) → Sighting → List Call
 calls_of_look goal folder (Absent why) = Reached folder (Some why) ∷ []
-calls_of_look goal folder Unread = Reached folder None ∷ ReadStatus folder None ∷ []
+calls_of_look goal folder (Unread is_missing) = Reached folder None ∷ ReadStatus folder None ∷ []
 calls_of_look goal folder (Shown bytes age) =
     (Reached folder None ∷ ReadStatus folder (Some bytes) ∷ [])
     ++ calls_of_age (process_asked goal.state (loaded_from bytes)) age
@@ -129,11 +130,14 @@ absent_finding goal Denied = Failed fault.Denied
 absent_finding goal Unanswered = Waiting
 
 -- The status does not matter for whether it is supervised.
-abbrev pub unread_finding : WaitState → Finding
-unread_finding state.Unsupervised = Waiting
-unread_finding state.Up = Failed fault.Unread
-unread_finding state.Down = Failed fault.Unread
-unread_finding state.Another = Failed fault.Unread
+abbrev pub unread_in : WaitState → (waits : Bool) → Finding
+unread_in state.Unsupervised waits = Waiting
+unread_in other true = Waiting
+unread_in other false = Failed fault.Unread
+
+-- A status that is missing still comes, if the service is waited for until it is supervised.
+abbrev pub unread_finding : Goal → (is_missing : Bool) → Finding
+unread_finding goal is_missing = unread_in goal.state (goal.awaits_supervision && is_missing)
 
 -- A service is up if its record says so and its process has lived for two seconds. A service whose process ends sooner,
 -- and is restarted each time, is therefore never up. A service is restarted if it is up so, and its process is not the
@@ -150,7 +154,7 @@ record_finding state.Another mark (Err cause) age = Failed (fault.Bad cause)
 
 abbrev pub finding_of : Goal → (mark : Option Mark) → Sighting → Finding
 finding_of goal mark (Absent why) = absent_finding goal why
-finding_of goal mark Unread = unread_finding goal.state
+finding_of goal mark (Unread is_missing) = unread_finding goal is_missing
 finding_of goal mark (Shown bytes age) = record_finding goal.state mark (loaded_from bytes) age
 
 -- A service was looked at, once, and this was found.

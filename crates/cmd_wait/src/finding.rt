@@ -6,6 +6,7 @@ ghost use Rattle.cmd_wait.specs.Finding.{process_asked, reached_if, record_findi
 ghost use Rattle.cmd_wait.specs.Finding.{unsupervised_finding, Finds};
 
 use cmd_svc::{Services, Unreached};
+use std::io::ErrorKind;
 use tai_status::{Label, Loaded, Phase, RecordFault, View, decode_front};
 
 /// The age, in hundredths of a second, from which the process of a service counts as up.
@@ -101,13 +102,14 @@ fn absent_finding(goal: Goal, why: Unreached) -> Finding
     }
 }
 
-/// Returns what is found about a service whose status can't be read.
-fn unread_finding(state: WaitState) -> Finding
-    ensures { result ≡ unread_finding state }
+/// Returns what is found about a service whose status can't be read. `is_missing` says whether it has none: svscan begins
+/// to supervise a service just before it writes the first one.
+fn unread_finding(goal: Goal, is_missing: bool) -> Finding
+    ensures { result ≡ unread_finding goal is_missing }
 {
-    match state {
-        WaitState::Unsupervised => Finding::Waiting,
-        WaitState::Up | WaitState::Down | WaitState::Another => Finding::Failed(WaitFault::Unread),
+    match (goal.state, goal.awaits_supervision && is_missing) {
+        (WaitState::Unsupervised, _) | (_, true) => Finding::Waiting,
+        (_, false) => Finding::Failed(WaitFault::Unread),
     }
 }
 
@@ -226,8 +228,9 @@ pub(crate) fn look<S: Services>(services: &mut S, goal: Goal, entry: &Entry<'_>)
     if let Err(why) = services.reach(entry.folder) {
         return absent_finding(goal, why);
     }
-    let Ok(front) = services.read_status(entry.folder) else {
-        return unread_finding(goal.state);
+    let front = match services.read_status(entry.folder) {
+        Ok(front) => front,
+        Err(fault) => return unread_finding(goal, fault.kind() == ErrorKind::NotFound),
     };
     let read = decode_front(front.as_slice());
     let age = age_asked(services, goal.state, &read);

@@ -6,11 +6,24 @@ use Rattle.tai_status.specs.declared.loading.Loaded.{Loaded}
 use Rattle.tai_status.specs.declared.record.RecordFault.{RecordFault}
 use Rattle.cmd_svc.specs.Calls.{Reached, ReadStatus}
 use Rattle.cmd_svc.proofs.Turns.{extended-then}
-use Rattle.cmd_wait.specs.Finding.{Absent, Shown, calls_of_age, process_asked, record_finding}
+use Rattle.cmd_wait.specs.Finding.{Absent, Shown, Unread, calls_of_age, process_asked, record_finding}
 use Rattle.cmd_wait.proofs.finding.look.Goals as goal
 
 pub returns-in-Err : goal.returns-in-Err
 returns-in-Err g c = record { sighting = Absent c.in-Err.why; is = c.absent_finding.ensures; calls = search rules }
+
+pub returns-in-Err-read_status : goal.returns-in-Err-read_status
+returns-in-Err-read_status g c =
+    let past = g.S.Services.calls c.args.services.now in
+    let asked = g.S.Services.calls c.reach.new.self in
+    let read = g.S.Services.calls c.read_status.new.self in
+    let folder = c.args.entry.now.folder.now in
+    let first : Extended past asked (Reached folder None ∷ []) = search rules in
+    let second : Extended asked read (ReadStatus folder None ∷ []) = search rules in record {
+      sighting = Unread c.eq.result;
+      is = c.unread_finding.ensures;
+      calls = extended-then past asked read (Reached folder None ∷ []) (ReadStatus folder None ∷ []) first second;
+    }
 
 pub returns : goal.returns
 returns g c =
