@@ -79,7 +79,9 @@ def stands(names):
     found = {}
     for name, line in zip(names, reported.splitlines()):
         line = json.loads(line)
-        line.pop("seconds", None)
+        # The seconds pass, and each svscan counts for itself.
+        for member in "seconds", "starts", "deaths":
+            line.pop(member, None)
         found[name] = line, read(f"d/{name}/supervise/status")[:12]
     return found
 

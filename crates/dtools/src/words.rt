@@ -55,6 +55,9 @@ fn program_words(rt: &HostRuntime) -> Result<Vec<String>, WordsFault> {
 
 /// Returns the words of the program. If they name `svstat` and no service, and there is a folder of services, words that
 /// name all of these are added, and with `-l` their loggers too.
+///
+/// It is not inlined, so that its paths are not on the stack while a command runs.
+#[inline(never)]
 pub(crate) fn listed_words(rt: &HostRuntime) -> Result<Vec<String>, WordsFault> {
     let words = program_words(rt)?;
     let Some(with_loggers) = lists_services(&words) else {
