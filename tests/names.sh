@@ -21,16 +21,12 @@ service() {
   chmod 755 "$1/run"
 }
 
-# scan FOLDER: svscan over it, until the service `web` there is supervised
+# scan FOLDER: svscan over it, until the service `web` there is up
 scan() {
   setsid "$program" svscan "$1" >/dev/null 2>"$1.said" </dev/null &
   groups+=($!)
-  local tries
-  for tries in $(seq 600); do
-    "$program" wait -u -t 60 "$1/web" 2>"$1.waits" && return
-    sleep 0.1
-  done
-  cat "$1.said" "$1.waits"
+  "$program" wait -u -t 60 "$1/web" && return
+  cat "$1.said"
   exit 1
 }
 
