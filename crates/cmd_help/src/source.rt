@@ -4,4 +4,4 @@
 pub(crate) const KIT: &str = "rattle-kit-13f logic dac8208d650f15bf";
 
 /// The sum of its sources, as packaging/source-sum says it.
-pub(crate) const SOURCE: &str = "84e86131af8e69c9d9da62bed72355c9c58b6e3c5ba2576fa06abaa94e9e5278";
+pub(crate) const SOURCE: &str = "e52deec580cae4586ecc1c84703ccf10378da4ef1da2bde21749152e57f6fbcd";

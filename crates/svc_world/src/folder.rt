@@ -789,7 +789,9 @@ impl ServiceFolder {
 
     /// Returns the text of the file with this name. Returns None if there is no such file.
     #[inline(never)]
-    pub(crate) fn setting(&self, name: &str) -> Option<SettingText> {
+    pub(crate) fn setting(&self, name: &str) -> Option<SettingText>
+        requires { length name.now ≤ 23 }
+    {
         read_front::<HostRuntime, SETTING_BYTES>(&self.files, self.path(name).as_str()).ok()
     }
 

@@ -227,6 +227,8 @@ impl<R> SystemChildren<R>
 where
     R: Processes<Started = SystemProcess> + Wait + Clock + Copy + Drop,
 {
+    ghost use Rattle.std.specs.Prelude.{◌≤◌, length};
+
     /// Makes the children of the service with this name in this folder, and their reaper, which must run in a thread of
     /// its own: it finds their deaths, and notifies the notifier after each one.
     pub fn new(
@@ -338,7 +340,9 @@ where
 
     /// Returns the text of a file of the service, if there is one. Reports this if the text is no number of seconds.
     #[inline(never)]
-    fn read_seconds(&self, name: &str, fault: &str) -> Option<SettingText> {
+    fn read_seconds(&self, name: &str, fault: &str) -> Option<SettingText>
+        requires { length name.now ≤ 23 }
+    {
         let text = self.folder.setting(name)?;
         if seconds_in(text.as_slice()).is_none() {
             self.report(fault);
