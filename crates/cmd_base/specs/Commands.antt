@@ -8,6 +8,7 @@ use Rattle.cmd_base.specs.declared.command.Command.TheVariants as command
 abbrev pub commands : List (List ℕ × Command)
 commands = (
     (codes "svscan", command.Svscan) ∷
+    (codes "supervise", command.Supervise) ∷
     (codes "svc", command.Svc) ∷
     (codes "svstat", command.Svstat) ∷
     (codes "svok", command.Svok) ∷

@@ -5,13 +5,14 @@ use Rattle.cmd_base.specs.declared.command.Command.TheVariants as command
 
 abbrev pub page : Command → List ℕ
 page command.Svscan = codes "dtools svscan [DIR [ROUNDS]]; DIR is the working directory if it is not given" ++ 10 ∷ []
+page command.Supervise = codes "dtools supervise DIR" ++ 10 ∷ []
 page command.Svc =
     codes "dtools svc [-W] [-udopchaitkx12q] SERVICE..; u up, d down, o once, x exit, and signals" ++ 10 ∷ []
-page command.Svstat = codes "dtools svstat [--json | --metrics] SERVICE.." ++ 10 ∷ []
+page command.Svstat = codes "dtools svstat [-l] [--json | --metrics | --html] [SERVICE..]" ++ 10 ∷ []
 page command.Svok = codes "dtools svok SERVICE" ++ 10 ∷ []
 page command.Wait =
-    codes "dtools wait [-u|-d|-x|-r] [-t SECONDS] SERVICE..; u up, d down, x no longer supervised, r restarted"
-    ++ 10 ∷ []
+    codes "dtools wait [-u|-U|-d|-x|-r] [-t SECONDS] SERVICE..; "
+    ++ codes "u up, U ready, d down, x no longer supervised, r restarted" ++ 10 ∷ []
 page command.Restart =
     codes "dtools restart [-t SECONDS] SERVICE..; sends TERM, and returns once another process is up" ++ 10 ∷ []
 page command.Multilog =

@@ -6,6 +6,7 @@ ghost use Rattle.cmd_base.specs.Commands.{command_named};
 #[derive(Clone, Copy, Debug, PartialEq, Eq)]
 pub enum Command {
     Svscan,
+    Supervise,
     Svc,
     Svstat,
     Svok,
@@ -30,6 +31,7 @@ impl Command {
     {
         match word {
             "svscan" => Some(Command::Svscan),
+            "supervise" => Some(Command::Supervise),
             "svc" => Some(Command::Svc),
             "svstat" => Some(Command::Svstat),
             "svok" => Some(Command::Svok),

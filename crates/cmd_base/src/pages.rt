@@ -12,13 +12,16 @@ pub fn page_of(command: Command) -> &'static [u8]
         Command::Svscan => {
             b"dtools svscan [DIR [ROUNDS]]; DIR is the working directory if it is not given\n"
         }
+        Command::Supervise => b"dtools supervise DIR\n",
         Command::Svc => {
             b"dtools svc [-W] [-udopchaitkx12q] SERVICE..; u up, d down, o once, x exit, and signals\n"
         }
-        Command::Svstat => b"dtools svstat [--json | --metrics] SERVICE..\n",
+        Command::Svstat => {
+            b"dtools svstat [-l] [--json | --metrics | --html] [SERVICE..]\n"
+        }
         Command::Svok => b"dtools svok SERVICE\n",
         Command::Wait => {
-            b"dtools wait [-u|-d|-x|-r] [-t SECONDS] SERVICE..; u up, d down, x no longer supervised, r restarted\n"
+            b"dtools wait [-u|-U|-d|-x|-r] [-t SECONDS] SERVICE..; u up, U ready, d down, x no longer supervised, r restarted\n"
         }
         Command::Restart => {
             b"dtools restart [-t SECONDS] SERVICE..; sends TERM, and returns once another process is up\n"

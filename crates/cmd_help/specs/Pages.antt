@@ -12,10 +12,11 @@ abbrev pub overview : List ℕ
 overview = printed (
     codes "dtools COMMAND WORDS..: supervision and logging of services" ∷
     codes "  svscan         keeps the services of a folder running" ∷
+    codes "  supervise      keeps one service running" ∷
     codes "  svc            controls services" ∷
     codes "  svstat         shows the state of services" ∷
     codes "  svok           says whether a service is supervised" ∷
-    codes "  wait           returns once services are up, down, restarted, or no longer supervised" ∷
+    codes "  wait           returns once services are up, ready, down, restarted, or no longer supervised" ∷
     codes "  restart        ends the processes of services, and returns once others are up" ∷
     codes "  multilog       logs lines into folders" ∷
     codes "  tai64n         puts a label before each line" ∷

@@ -11,10 +11,11 @@ pub fn overview() -> &'static [u8]
 {
     b"dtools COMMAND WORDS..: supervision and logging of services
   svscan         keeps the services of a folder running
+  supervise      keeps one service running
   svc            controls services
   svstat         shows the state of services
   svok           says whether a service is supervised
-  wait           returns once services are up, down, restarted, or no longer supervised
+  wait           returns once services are up, ready, down, restarted, or no longer supervised
   restart        ends the processes of services, and returns once others are up
   multilog       logs lines into folders
   tai64n         puts a label before each line

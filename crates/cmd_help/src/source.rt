@@ -4,4 +4,4 @@
 pub(crate) const KIT: &str = "rattle-kit-13f logic dac8208d650f15bf";
 
 /// The sum of its sources, as packaging/source-sum says it.
-pub(crate) const SOURCE: &str = "e52deec580cae4586ecc1c84703ccf10378da4ef1da2bde21749152e57f6fbcd";
+pub(crate) const SOURCE: &str = "879706fa06105f518b3bdb77c392ab6662fb970944d03b3313e14d4aeeb45380";
