@@ -4,4 +4,4 @@
 pub(crate) const KIT: &str = "rattle-kit-13f logic dac8208d650f15bf";
 
 /// The sum of its sources, as packaging/source-sum says it.
-pub(crate) const SOURCE: &str = "879706fa06105f518b3bdb77c392ab6662fb970944d03b3313e14d4aeeb45380";
+pub(crate) const SOURCE: &str = "8555e46e09e3b9ee022ba4103e9faa6236a9942be7cc55b12928e8b25fa2ef08";
