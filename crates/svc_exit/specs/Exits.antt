@@ -1,9 +1,9 @@
 -- How a process ended, and the line that says so.
 use Rattle.std.specs.Prelude.{◌≡◌, ◌<◌, ◌^◌, ◌==◌, ⊤, ℕ, pos, if◌then◌else◌, List, [], ◌∷◌, ◌++◌, codes, decimal}
-use Rattle.std.specs.Prelude.{Some, None}
+use Rattle.std.specs.Prelude.{Option, Some, None}
 use Rattle.std.specs.Process.{exit_code, exit_signal}
 use Rattle.std.specs.declared.process.status.ExitStatus.{ExitStatus}
-use Rattle.tai_status.specs.Label.{Tai64n, label_text}
+use Rattle.tai_status.specs.Label.{Tai64n, IsLabel, label_text}
 use Rattle.svc_exit.specs.declared.ending.Ending.{Ending}
 use Rattle.svc_exit.specs.declared.ending.Ending.TheVariants.{Status, Signal, Unknown}
 use Rattle.svc_exit.specs.declared.exit.Exit.{Exit}
@@ -78,3 +78,14 @@ IsEnding Unknown = ⊤
 -- The text is the line of the process with this number that ended in this way at this time.
 abbrev pub Says : (text : List ℕ) (pid : ℕ) (label : Tai64n) → Ending → Type 0
 Says text pid label ending = text ≡ exit_text (record { pid = pid; ending = ending; label = label })
+
+-- The number, the way to end and the label of an exit fit their types.
+pub record IsExit (exit : Exit) : Type 0 where
+  pub pid : exit.pid < 2 ^ 32
+  pub ending : IsEnding exit.ending
+  pub label : IsLabel exit.label
+
+-- what the line of an exit says; None if it is not the line of any exit
+abbrev pub Reads : (line : List ℕ) → Option Exit → Type 0
+Reads line (Some exit) = line ≡ exit_text exit
+Reads line None = (exit : Exit) → IsExit exit → line ≡ exit_text exit → ⊥

@@ -24,7 +24,7 @@ pub struct Exit {
 }
 
 /// Writes a number at the end of a line.
-fn push_number(out: &mut ExitText, number: u32)
+pub(crate) fn push_number(out: &mut ExitText, number: u32)
     requires { array_vec_len out.old + 10 ≤ 64 }
     ensures text { out.new.items ≡ out.old.items ++ decimal number }
     ensures len { array_vec_len out.new ≤ array_vec_len out.old + 10 }
@@ -35,7 +35,7 @@ fn push_number(out: &mut ExitText, number: u32)
 }
 
 /// Writes bytes at the end of a line.
-fn push(out: &mut ExitText, bytes: &[u8])
+pub(crate) fn push(out: &mut ExitText, bytes: &[u8])
     requires { array_vec_len out.old + length bytes.now ≤ 64 }
     ensures text { out.new.items ≡ out.old.items ++ bytes.now }
     ensures len { array_vec_len out.new ≡ array_vec_len out.old + length bytes.now }

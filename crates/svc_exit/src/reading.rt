@@ -1,10 +1,11 @@
 //! Reading from its line how a process ended.
 ghost use Rattle.std.specs.Prelude.{◌≡◌, ◌↔◌, None, IfSome, IsTrue};
-ghost use Rattle.svc_exit.specs.Exits.{IsEnding, Says};
+ghost use Rattle.svc_exit.specs.Exits.{IsEnding, Reads, Says};
 ghost use Rattle.svc_exit.specs.declared.ending.Ending.{Ending};
 
 use crate::ending::Ending;
 use crate::exit::{Exit, exit_text};
+use crate::moment::{Moment, moment_in};
 use tai_status::Label;
 
 /// Returns whether a text is the line of the process with this number that ended in this way at this time.
@@ -39,5 +40,19 @@ pub fn read_ending(text: &[u8], pid: u32, label: &Label) -> Option<Ending>
         Some(Ending::Unknown)
     } else {
         None
+    }
+}
+
+/// Reads from its line, with the newline, which process ended, how, and when. Returns None for any text that is not the
+/// line of an exit.
+pub fn read_exit(line: &[u8]) -> Option<Exit>
+    ensures { Reads line.now result }
+{
+    let Some(Moment { pid, label }) = moment_in(line) else {
+        return None;
+    };
+    match read_ending(line, pid, &label) {
+        Some(ending) => Some(Exit { pid, ending, label }),
+        None => None,
     }
 }

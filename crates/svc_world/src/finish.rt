@@ -4,6 +4,7 @@ ghost use Rattle.svc_world.specs.declared.finish.TheConstants.{FINISH_SECONDS};
 ghost use Rattle.svc_world.specs.Finish.{IsFinishTime, IsSeconds, is_late};
 
 use sup_core::read_number;
+use svc_exit::before_newline;
 
 /// The seconds for which a `finish` may run if `timeout-finish` says nothing else.
 const FINISH_SECONDS: u64 = 5;
@@ -16,17 +17,6 @@ pub(crate) const FINISH_TIME: &str = "timeout-finish";
 
 /// What is said about a service if its file `timeout-finish` holds no number of seconds.
 pub(crate) const NO_FINISH_TIME: &str = "timeout-finish is no number of seconds: 5 seconds count";
-
-/// Returns what comes before the newline at the end of a text, if there is one.
-fn before_newline(text: &[u8]) -> Option<&[u8]>
-    ensures some { IfSome result (λ front. text.now ≡ front.now ++ 10 ∷ []) }
-    ensures none { is_none result ≡ true → (front : List ℕ) → text.now ≡ front ++ 10 ∷ [] → ⊥ }
-{
-    match text {
-        [front @ .., b'\n'] => Some(front),
-        _ => None,
-    }
-}
 
 /// Returns the number in the text of a file: decimal digits, with or without a newline.
 pub(crate) fn seconds_in(text: &[u8]) -> Option<u64>
