@@ -268,7 +268,7 @@ where
         notifier: Arc<Notifier, Global>,
     ) -> Result<(ChildWorld<SystemChildren<R>>, PartReaper), Cause> {
         let streams = copies(input, output)?;
-        let _ = folder.folder.remove_counts();
+        let _ = folder.folder.remove_earlier();
         let (mut children, reaper) = self.children(folder, name, streams, notifier)?;
         let own = &self.shared.own;
         let (place, is_open, adopted) = match &left.process {

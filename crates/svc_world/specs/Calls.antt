@@ -26,6 +26,8 @@ use Rattle.svc_world.specs.declared.paper.Remark.{Remark}
 -- - A `finish` was spawned after this end and got this number, or could not be made.
 -- - It was sought whether a `finish` that began at this tick has run for as long as it may.
 -- - It was sought how many seconds after it was asked to go the service gets KILL.
+-- - It was sought when the last child said that it is ready.
+-- - It was sought for how many seconds the next start waits after many ends.
 pub data Call : Type 0 where
   Spawned : (child : Option ℕ) → Call
   SoughtDeath : (death : Option Death) → Call
@@ -42,3 +44,5 @@ pub data Call : Type 0 where
   SpawnedFinish : (exit : Exit) → (child : Option ℕ) → Call
   SoughtLate : (tick : ℕ) → (late : Bool) → Call
   SoughtKillTime : (seconds : Option ℕ) → Call
+  SoughtReady : (ready : Option Tai64n) → Call
+  SoughtBackoff : (seconds : Option ℕ) → Call

@@ -41,6 +41,8 @@ paper_name paper.Process = codes "process"
 paper_name paper.Status = codes "status"
 paper_name paper.Exit = codes "exit"
 paper_name paper.Counts = codes "counts"
+paper_name paper.Ready = codes "ready"
+paper_name paper.Backoff = codes "backoff"
 
 -- what is said while the process with this number may still run; 0 means that processes can't be looked at
 abbrev pub still_runs : (pid : ℕ) → List ℕ

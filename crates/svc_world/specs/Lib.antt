@@ -10,3 +10,5 @@ pub mod Flow
 pub mod Owed
 pub mod Linger
 pub mod Adoption
+pub mod Backoff
+pub mod Notification

@@ -1,5 +1,6 @@
 -- What a service's world knows between two calls, and what each call does.
-use Rattle.std.specs.Prelude.{◌≡◌, ◌⊎◌, ℕ, Bool, true, false, not, List, [], ◌∷◌, Option, Some, None, Result}
+use Rattle.std.specs.Prelude.{◌≡◌, ◌⊎◌, ℕ, ◌+◌, ◌*◌, nat_le, Bool, true, false, not, ◌||◌, List, [], ◌∷◌, ◌++◌}
+use Rattle.std.specs.Prelude.{Option, Some, None, Result}
 use Rattle.std.specs.Prelude.{Ok, Err, option_map}
 use Rattle.tai_status.specs.Label.{Tai64n}
 use Rattle.tai_status.specs.Counted.{Rose}
@@ -7,6 +8,7 @@ use Rattle.tai_status.specs.Loading.{loaded_from, status_in}
 use Rattle.tai_status.specs.declared.loading.Loaded.{Loaded}
 use Rattle.tai_status.specs.declared.record.RecordFault.{RecordFault}
 use Rattle.tai_status.specs.declared.record.Want.{Want}
+use Rattle.tai_status.specs.declared.record.Want.TheVariants.{Up}
 use Rattle.sup_core.specs.declared.asks.Sig.{Sig}
 use Rattle.sup_core.specs.declared.asks.Sig.TheVariants as sig
 use Rattle.svc_house.specs.declared.call.StartAnswer.{StartAnswer}
@@ -14,7 +16,9 @@ use Rattle.svc_house.specs.declared.call.StartAnswer.TheVariants.{Started, Faile
 use Rattle.svc_house.specs.Calls.{ExtendedWhileKept}
 use Rattle.svc_exit.specs.declared.exit.Exit.{Exit}
 use Rattle.svc_exit.specs.Exits.{exit_text}
+use Rattle.svc_exit.specs.Moments.{moment_text}
 use Rattle.svc_exit.specs.declared.counts.Counts.{Counts}
+use Rattle.svc_exit.specs.declared.moment.Moment.{Moment}
 use Rattle.svc_exit.specs.Counts.{counts_text, no_counts, one_ended, one_started}
 use Rattle.svc_left.specs.Process.{process_line}
 use Rattle.svc_left.specs.Place.{finish_in, finishing, intending, occupied, place_line, process_in, vacated, wanting}
@@ -25,15 +29,17 @@ use Rattle.svc_left.specs.declared.leftover.Leftover.{Leftover}
 use Rattle.svc_left.specs.declared.leftover.Leftover.TheVariants.{Nobody, Process, Unsure}
 use Rattle.svc_world.specs.declared.begin.Death.{Death}
 use Rattle.svc_world.specs.declared.begin.LastChild.{LastChild}
-use Rattle.svc_world.specs.declared.begin.LastChild.TheVariants.{Gone, Alive, Dead, Finishing, Ended}
+use Rattle.svc_world.specs.declared.begin.LastChild.TheVariants.{Gone, Alive, Dead, Finishing, Ended, Held}
 use Rattle.svc_world.specs.declared.paper.Owed.{Owed}
 use Rattle.svc_world.specs.declared.paper.Paper.{Paper}
 use Rattle.svc_world.specs.declared.paper.Paper.TheVariants as paper
 use Rattle.svc_world.specs.declared.paper.Remark.{Remark}
 use Rattle.svc_world.specs.declared.paper.Remark.TheVariants.{StillRuns, Unwritten, AllWritten}
+use Rattle.svc_world.specs.Backoff.{asks_end, is_fifth, last_four, seconds_after, tick_after}
 use Rattle.svc_world.specs.Owed.{first_owed, is_owed, nothing_owed, with_owed}
 use Rattle.svc_world.specs.Calls.{Call, Spawned, SoughtDeath, Lingered, Signalled, Wrote, Said, SoughtLeftover, Adopted}
 use Rattle.svc_world.specs.Calls.{SoughtTick, ReadTick, ReadClock, SoughtFinish, SpawnedFinish, SoughtKillTime, SoughtLate}
+use Rattle.svc_world.specs.Calls.{SoughtBackoff, SoughtReady}
 
 pub record Watch : Type 0 where
   -- what was asked of the system, while that is recorded
@@ -54,6 +60,14 @@ pub record Watch : Type 0 where
   pub exit : Option Exit
   -- how many children began and ended
   pub counts : Counts
+  -- when the last child said that it is ready, if it did
+  pub ready : Option Moment
+  -- until when the next start waits, if it does
+  pub backoff : Option Moment
+  -- when processes ended and nobody asked for it: the last four of these ticks
+  pub ends : List ℕ
+  -- whether a signal asked the last child to end
+  pub is_asked : Bool
   -- which papers are still to be written, and whether that was said
   pub owed : Owed
   pub is_said : Bool
@@ -78,6 +92,10 @@ begun calls session place is_open adopted = record {
   status = None;
   exit = None;
   counts = no_counts;
+  ready = None;
+  backoff = None;
+  ends = [];
+  is_asked = false;
   owed = nothing_owed;
   is_said = false;
   unwritten = 0;
@@ -98,6 +116,11 @@ abbrev pub WritesIfSome : (paper : Paper) (content : Option (List ℕ)) (old new
 WritesIfSome paper None old new = new ≡ old
 WritesIfSome paper (Some content) old new = Writes paper content old new
 
+-- the line about a process and a time; nothing if there is none
+abbrev pub notice : Option Moment → List ℕ
+notice None = []
+notice (Some moment) = moment_text moment
+
 -- the present content of a paper
 abbrev pub content_of : Paper → Watch → Option (List ℕ)
 content_of paper.Place w = Some (place_line w.place)
@@ -105,6 +128,8 @@ content_of paper.Process w = option_map process_line (process_in w.place)
 content_of paper.Status w = w.status
 content_of paper.Exit w = option_map exit_text w.exit
 content_of paper.Counts w = Some (counts_text w.counts)
+content_of paper.Ready w = Some (notice w.ready)
+content_of paper.Backoff w = Some (notice w.backoff)
 
 -- This was said, once.
 pub record Says (remark : Remark) (old new : Watch) : Type 0 where
@@ -128,19 +153,54 @@ SaysChange (Some paper) false old new = Says (Unwritten paper) (record old { is_
 SaysChange None true old new = Says AllWritten (record old { is_said = false }) new
 SaysChange first is_said old new = new ≡ old
 
--- Each owed paper was to be written again, once, with its present content. After that, it is said if something changed.
+-- These papers were to be written again, one after the other, if they are owed.
+abbrev pub WritesEach : List Paper → (old new : Watch) → Type 0
+WritesEach [] old new = new ≡ old
+WritesEach (paper ∷ papers) old new = (mid : Watch) × WritesAgain paper old mid × WritesEach papers mid new
+
+-- all papers, in the order in which they are written again
+abbrev pub papers : List Paper
+papers = (
+    paper.Place ∷ paper.Process ∷ paper.Status ∷ paper.Exit ∷ paper.Counts ∷ paper.Ready ∷ paper.Backoff ∷ [])
+
+-- Readiness
+
+-- It was sought when the last child said that it is ready.
+pub record SeeksReady (ready : Option Tai64n) (old new : Watch) : Type 0 where
+  pub calls : ExtendedWhileKept old.calls new.calls (SoughtReady ready ∷ [])
+  pub stands : new ≡ record old { calls = new.calls }
+
+-- a world whose last child is ready, or is not
+abbrev pub with_ready : Option Moment → Watch → Watch
+with_ready ready w = record w { ready = ready }
+
+-- It was noted that the child with this number is ready, if it said so.
+abbrev pub NotesReady : (pid : ℕ) (ready : Option Tai64n) (old new : Watch) → Type 0
+NotesReady pid None old new = new ≡ old
+NotesReady pid (Some label) old new =
+    Writes paper.Ready (moment_text (record { pid = pid; label = label }))
+    (with_ready (Some (record { pid = pid; label = label })) old) new
+
+-- It was asked whether the child with this number said that it is ready, and noted if it did.
+pub record AsksReady (pid : ℕ) (old new : Watch) : Type 0 where
+  pub ready : Option Tai64n
+  pub sought : Watch
+  pub seeks : SeeksReady ready old sought
+  pub notes : NotesReady pid ready sought new
+
+-- That is asked of a child whose death is not known, until it is ready.
+abbrev pub LooksReady : LastChild → Option Moment → (old new : Watch) → Type 0
+LooksReady (Alive pid) None old new = AsksReady pid old new
+LooksReady child ready old new = new ≡ old
+
+-- Each owed paper was to be written again, once, with its present content. After that, it is said if something changed,
+-- and it is asked whether the child is ready.
 pub record Mends (old new : Watch) : Type 0 where
-  pub first : Watch
-  pub second : Watch
-  pub third : Watch
-  pub fourth : Watch
   pub all : Watch
-  pub place : WritesAgain paper.Place old first
-  pub process : WritesAgain paper.Process first second
-  pub status : WritesAgain paper.Status second third
-  pub exit : WritesAgain paper.Exit third fourth
-  pub counts : WritesAgain paper.Counts fourth all
-  pub says : SaysChange (first_owed all.owed) all.is_said all new
+  pub said : Watch
+  pub papers : WritesEach papers old all
+  pub says : SaysChange (first_owed all.owed) all.is_said all said
+  pub looks : LooksReady said.child said.ready said new
 
 -- Starts
 
@@ -235,7 +295,8 @@ RecordsStart (Some pid) old new = RecordsChild pid old new
 
 -- a world in which this child, or none, is the answer to a start at this time
 abbrev pub answered : (child : Option ℕ) (label : Tai64n) → Watch → Watch
-answered child label w = record w { answer = Some (answer_of child label); child = child_of child }
+answered child label w =
+    record w { answer = Some (answer_of child label); child = child_of child; is_asked = false }
 
 -- The service was run: the intent was written into its place, and only if that was written, one child was then spawned.
 -- If there is a child, its process was recorded. If there is none, it was recorded that no start is intended any more.
@@ -316,11 +377,15 @@ found pid None = Alive pid
 found pid (Some death) = Dead (exit_of pid death)
 
 -- A signal to the last child, whose death is not known: its death is sought, and the signal is sent only if there is
--- none. A death that is found is kept, to be reported.
+-- none. A death that is found is kept, to be reported. It is noted that the child is asked to end, if the signal does that.
 pub record SignalsChild (sig : Sig) (pid : ℕ) (old new : Watch) : Type 0 where
   pub death : Option Death
   pub calls : ExtendedWhileKept old.calls new.calls (SoughtDeath death ∷ sent sig pid death)
-  pub stands : new ≡ record old { calls = new.calls; child = found pid death }
+  pub stands : new ≡ record old {
+    calls = new.calls;
+    child = found pid death;
+    is_asked = old.is_asked || asks_end sig;
+  }
 
 -- The seconds after which a service that was asked to go gets KILL were sought, once.
 pub record AsksKillTime (seconds : Option ℕ) (old new : Watch) : Type 0 where
@@ -334,6 +399,10 @@ SeeksKillTime child seconds old new = (seconds ≡ None) × (new ≡ old)
 
 -- Deaths
 
+-- a world whose child ended this way
+abbrev pub with_exit : Exit → Watch → Watch
+with_exit exit w = record w { exit = Some exit }
+
 -- a world in which a child has ended this way
 abbrev pub bereft : Exit → Watch → Watch
 bereft exit w = record w { child = Gone; exit = Some exit; counts = one_ended w.counts }
@@ -345,14 +414,96 @@ pub record ReportsDeath (exit : Exit) (old new : Watch) : Type 0 where
   pub exit_written : Writes paper.Exit (exit_text exit) (bereft exit old) mid
   pub counts_written : Writes paper.Counts (counts_text (one_ended old.counts)) mid new
 
+-- Many ends
+
+-- It was sought for how many seconds the next start waits after many ends.
+pub record AsksBackoff (seconds : Option ℕ) (old new : Watch) : Type 0 where
+  pub calls : ExtendedWhileKept old.calls new.calls (SoughtBackoff seconds ∷ [])
+  pub stands : new ≡ record old { calls = new.calls }
+
+-- No start waits after an end that somebody asked for, nor if the service is not to be up.
+abbrev pub SeeksBackoff : (is_asked : Bool) → Want → (seconds : Option ℕ) → (old new : Watch) → Type 0
+SeeksBackoff false Up seconds old new = AsksBackoff seconds old new
+SeeksBackoff is_asked want seconds old new = (seconds ≡ None) × (new ≡ old)
+
+-- a world in which one more process ended at this tick, and nobody asked for it
+abbrev pub with_unasked : (tick : ℕ) → Watch → Watch
+with_unasked tick w = record w { ends = last_four (w.ends ++ tick ∷ []) }
+
+-- a world in which the death of a process is kept until a tick, and the start after it until a time
+abbrev pub with_hold : Exit → (until : ℕ) → (label : Tai64n) → Watch → Watch
+with_hold exit until label w =
+    record w { child = Held exit until; backoff = Some (record { pid = exit.pid; label = label }) }
+
+-- A death is kept for this many seconds from this tick on, and it was to be written until when the next start waits.
+pub record KeepsUntil (tick seconds : ℕ) (exit : Exit) (old new : Watch) : Type 0 where
+  pub label : Tai64n
+  pub timed : Watch
+  pub reads : ReadsClock label old timed
+  pub writes : Writes paper.Backoff (moment_text (record { pid = exit.pid; label = seconds_after seconds label }))
+      (with_hold exit (tick_after seconds tick) (seconds_after seconds label) timed) new
+
+-- The start after this end waits for this many seconds from this tick on. How the child ended was to be written first.
+pub record Holds (tick seconds : ℕ) (exit : Exit) (old new : Watch) : Type 0 where
+  pub noted : Watch
+  pub notes : Writes paper.Exit (exit_text exit) (with_exit exit old) noted
+  pub keeps : KeepsUntil tick seconds exit noted new
+
+-- A death that nobody asked for: after the fifth within a minute, the next start waits. Otherwise the death is reported.
+abbrev pub HoldsOrReports : (is_fifth : Bool) (tick seconds : ℕ) → Exit → (death : Option Tai64n) (old new : Watch)
+    → Type 0
+HoldsOrReports true tick seconds exit death old new = (death ≡ None) × Holds tick seconds exit old new
+HoldsOrReports false tick seconds exit death old new = (death ≡ Some exit.label) × ReportsDeath exit old new
+
+-- The present tick was read, and the end was counted.
+pub record CountsEnd (seconds : ℕ) (exit : Exit) (death : Option Tai64n) (old new : Watch) : Type 0 where
+  pub tick : ℕ
+  pub timed : Watch
+  pub reads : ReadsTick tick old timed
+  pub does : HoldsOrReports (is_fifth tick timed.ends) tick seconds exit death (with_unasked tick timed) new
+
+abbrev pub CountsIfSome : (seconds : Option ℕ) → Exit → (death : Option Tai64n) (old new : Watch) → Type 0
+CountsIfSome None exit death old new = (death ≡ Some exit.label) × ReportsDeath exit old new
+CountsIfSome (Some seconds) exit death old new = CountsEnd seconds exit death old new
+
+-- A death that no longer waits for control bytes: it is reported, or the next start waits.
+pub record PassesDeath (exit : Exit) (death : Option Tai64n) (old new : Watch) : Type 0 where
+  pub seconds : Option ℕ
+  pub sought : Watch
+  pub seeks : SeeksBackoff old.is_asked old.place.want seconds old sought
+  pub counts : CountsIfSome seconds exit death sought new
+
+-- a world in which no start waits
+abbrev pub with_no_backoff : Watch → Watch
+with_no_backoff w = record w { backoff = None }
+
+-- The wait of a start is over: its file was to be removed, and then the death was reported.
+pub record EndsHold (exit : Exit) (death : Option Tai64n) (old new : Watch) : Type 0 where
+  pub mid : Watch
+  pub reported : death ≡ Some exit.label
+  pub removes : Writes paper.Backoff [] (with_no_backoff old) mid
+  pub reports : ReportsDeath exit mid new
+
+-- The wait of a start goes on before its tick, and ends at it.
+abbrev pub HoldsOn : (is_over : Bool) → Exit → (death : Option Tai64n) (old new : Watch) → Type 0
+HoldsOn false exit death old new = (death ≡ None) × (new ≡ old)
+HoldsOn true exit death old new = EndsHold exit death old new
+
+-- The present tick was read, to find whether a start still waits.
+pub record LooksHeld (exit : Exit) (until : ℕ) (death : Option Tai64n) (old new : Watch) : Type 0 where
+  pub tick : ℕ
+  pub timed : Watch
+  pub reads : ReadsTick tick old timed
+  pub does : HoldsOn (nat_le until tick) exit death timed new
+
 -- a world whose child has ended, with its `finish`, and the death is not reported yet
 abbrev pub with_end : Exit → Watch → Watch
 with_end exit w = record w { child = Ended exit }
 
--- A death whose `finish` is over is kept while control bytes come, and otherwise reported.
+-- A death whose `finish` is over is kept while control bytes come, and otherwise passed on.
 abbrev pub KeepsOrReports : (waits : Bool) → Exit → (death : Option Tai64n) (old new : Watch) → Type 0
 KeepsOrReports true exit death old new = (death ≡ None) × (new ≡ with_end exit old)
-KeepsOrReports false exit death old new = (death ≡ Some exit.label) × ReportsDeath exit old new
+KeepsOrReports false exit death old new = PassesDeath exit death old new
 
 -- It was asked once whether a death waits.
 pub record AsksLinger (waits : Bool) (old new : Watch) : Type 0 where
@@ -372,10 +523,6 @@ pub record KnowsDeath (exit : Exit) (death : Option Tai64n) (old new : Watch) : 
 pub record SeeksFinish (has : Bool) (old new : Watch) : Type 0 where
   pub calls : ExtendedWhileKept old.calls new.calls (SoughtFinish has ∷ [])
   pub stands : new ≡ record old { calls = new.calls }
-
--- a world whose child ended this way
-abbrev pub with_exit : Exit → Watch → Watch
-with_exit exit w = record w { exit = Some exit }
 
 -- The intent to start a `finish` was to be written into the place, once, and was or was not.
 pub record IntendsFinish (written : Bool) (old new : Watch) : Type 0 where
@@ -432,11 +579,19 @@ abbrev pub FinishesIf : (has : Bool) → Exit → (death : Option Tai64n) (old n
 FinishesIf false exit death old new = KnowsDeath exit death old new
 FinishesIf true exit death old new = BeginsFinish exit death old new
 
--- A death was found: it was sought once whether the service has a `finish`, which then begins.
+-- A dead child is not ready: if it was, the file of that was to be removed.
+abbrev pub ForgetsReady : Option Moment → (old new : Watch) → Type 0
+ForgetsReady None old new = new ≡ old
+ForgetsReady (Some moment) old new = Writes paper.Ready [] (with_ready None old) new
+
+-- A death was found: the child is no longer ready, and it was sought once whether the service has a `finish`, which
+-- then begins.
 pub record LearnsDeath (exit : Exit) (death : Option Tai64n) (old new : Watch) : Type 0 where
   pub has : Bool
+  pub forgot : Watch
   pub sought : Watch
-  pub seeks : SeeksFinish has old sought
+  pub forgets : ForgetsReady old.ready old forgot
+  pub seeks : SeeksFinish has forgot sought
   pub finishes : FinishesIf has exit death sought new
 
 -- The end of a `finish` was sought, and it still runs. It gets KILL if its time is over.
@@ -474,14 +629,15 @@ abbrev pub SeeksDeath : (pid : ℕ) (death : Option Tai64n) (old new : Watch) �
 SeeksDeath pid death old new = LivesOn death old new ⊎ FindsDeath pid death old new
 
 -- What a poll for a death reports: one that was found already, or otherwise what the system finds for a child that
--- lives. Each death is reported once, only after the service's `finish` is over, and only when it no longer waits for
--- control bytes.
+-- lives. Each death is reported once, only after the service's `finish` is over, only when it no longer waits for
+-- control bytes, and only when the start after it no longer waits.
 abbrev pub PollsDeath : LastChild → (death : Option Tai64n) → (old new : Watch) → Type 0
 PollsDeath Gone death old new = (death ≡ None) × (new ≡ old)
 PollsDeath (Alive pid) death old new = SeeksDeath pid death old new
 PollsDeath (Dead exit) death old new = LearnsDeath exit death old new
 PollsDeath (Finishing exit) death old new = SeeksEnd exit death old new
 PollsDeath (Ended exit) death old new = KnowsDeath exit death old new
+PollsDeath (Held exit until) death old new = LooksHeld exit until death old new
 
 -- Records
 
@@ -499,8 +655,14 @@ CountsUnwritten false old new = Rose old new
 abbrev pub with_want : (bytes : List ℕ) → Watch → Watch
 with_want bytes w = with_place (wanting w.place (want_loaded (loaded_from bytes) w.place.want)) w
 
+-- the last child, if the start after it waits no longer
+abbrev pub released : LastChild → LastChild
+released (Held exit until) = Held exit 0
+released child = child
+
+-- a world with this status record; a new record ends the wait of a start
 abbrev pub with_status : (bytes : List ℕ) → Watch → Watch
-with_status bytes w = record w { status = Some bytes }
+with_status bytes w = record w { status = Some bytes; child = released w.child }
 
 -- A record that was not written when it was new is counted.
 pub record CountsRecord (written : Bool) (old new : Watch) : Type 0 where

@@ -1,16 +1,22 @@
-//! The processes that an earlier svscan started, and the one thread that watches all of them.
+//! The one thread that watches the processes that an earlier svscan started, and the FIFOs on which processes say that
+//! they are ready.
 ghost use Rattle.std.specs.Prelude.{◌≡◌, IfErr, IfOk};
 ghost use Rattle.svc_world.specs.Adoption.{is_unchanged};
 
+use crate::listening::{Listened, Listening};
 use crate::processes::{AdoptedProcess, StatSource, folder_of, has_ended, lives_by};
 use crate::stat::Stat;
+use cmd_base::SystemClock;
+use mio::{Events, Poll, Registry, Token, Waker};
 use std::alloc::{AllocError, Global};
-use std::io;
+use std::net::Net;
 use std::sync::atomic::{AtomicBool, AtomicU64, Ordering};
 use std::sync::{Arc, Mutex, Wait};
 use std::thread::{Builder, Threads};
-use std::time::Duration;
+use std::time::{Clock, Duration};
+use std::{io, thread};
 use svc_house::{News, Notifier};
+use tai_status::TimeSource;
 
 /// The seconds between two looks at the adopted processes.
 const LOOK_SECONDS: u64 = 1;
@@ -18,6 +24,15 @@ const LOOK_SECONDS: u64 = 1;
 /// Every look whose number is a multiple of this checks whether a process has ended and waits for its parent. The others
 /// check whether another process has its number.
 const ENDS_EVERY: u64 = 2;
+
+/// The most events that one poll gives.
+const EVENTS: usize = 64;
+
+/// How many milliseconds the thread rests after a poll failed.
+const FAILED: u64 = 100;
+
+/// The token of the waker: no descriptor has this number.
+const WAKER: Token = Token(usize::MAX);
 
 /// The inode number of a process's folder in /proc if it is not known. No folder has this number.
 const UNKNOWN: u64 = 0;
@@ -92,16 +107,19 @@ impl Adopted {
     }
 }
 
-/// What the thread shares with those who adopt processes.
+/// What the thread shares with those who adopt processes, and those who have FIFOs watched.
 #[derive(Drop)]
 struct WatchState {
     adopted: Mutex<Vec<Adopted>>,
+    listening: Mutex<Listening>,
     closed: AtomicBool,
-    notifier: Notifier,
+    registry: Registry,
+    waker: Waker,
 }
 
 /// A thread that checks once a second whether the adopted processes live, and notifies the service of each one that
-/// does not. The service itself then finds that its process is gone.
+/// does not. The service itself then finds that its process is gone. The thread also notifies a service whose process
+/// says that it is ready.
 pub struct AdoptionWatch {
     state: Arc<WatchState, Global>,
 }
@@ -109,24 +127,29 @@ pub struct AdoptionWatch {
 impl Drop for AdoptionWatch {
     fn drop(self) {
         let AdoptionWatch { state } = self;
-        state.notifier.notify(News::raise(&state.closed));
+        state.closed.store(true, Ordering::SeqCst);
+        let _ = state.waker.wake();
     }
 }
 
 impl AdoptionWatch {
-    /// Starts the thread. No process is adopted yet.
-    pub fn open<R: Threads + Wait + Copy + Send + Drop + 'static>(
+    /// Starts the thread. No process is adopted yet, and no FIFO is watched.
+    pub fn open<R: Net + Threads + Wait + Clock + Copy + Send + Drop + 'static>(
         rt: &R,
         alloc: Global,
     ) -> io::Result<AdoptionWatch> {
+        let poll = Poll::new(rt)?;
+        let events = Events::with_capacity(alloc, EVENTS)?;
         let state = WatchState {
             adopted: Mutex::new(Vec::new(alloc)),
+            listening: Mutex::new(Listening::new(alloc)),
             closed: AtomicBool::new(false),
-            notifier: Notifier::new(),
+            registry: poll.registry().try_clone()?,
+            waker: Waker::new(poll.registry(), WAKER)?,
         };
         let state = Arc::new(alloc, state)?;
         let theirs = Arc::try_clone(&state)?;
-        start(*rt, theirs)?;
+        start(*rt, poll, events, theirs)?;
         Ok(AdoptionWatch { state })
     }
 
@@ -142,25 +165,42 @@ impl AdoptionWatch {
             notifier,
             folder: AtomicU64::new(UNKNOWN),
         };
-        let news = News::add(rt, &self.state.adopted, adopted)?;
-        self.state.notifier.notify(news);
+        self.state.adopted.lock(rt).push(adopted)?;
+        let _ = self.state.waker.wake();
         Ok(())
+    }
+
+    /// Watches a FIFO from now on, until its process says that it is ready.
+    pub(crate) fn listen<R: Wait>(&self, rt: &R, one: Listened) -> io::Result<()> {
+        self.state.listening.lock(rt).add(&self.state.registry, one)
+    }
+
+    /// Watches the FIFO with this number no longer.
+    pub(crate) fn ignore<R: Wait>(&self, rt: &R, number: usize) {
+        self.state.listening.lock(rt).ignore(number);
     }
 }
 
 /// Starts the thread.
-fn start<R: Threads + Wait + Copy + Send + Drop + 'static>(
+fn start<R: Threads + Wait + Clock + Copy + Send + Drop + 'static>(
     rt: R,
+    poll: Poll,
+    events: Events<Global>,
     state: Arc<WatchState, Global>,
 ) -> io::Result<()> {
     Builder::new()
         .stack_size(1)
-        .spawn(&rt, move || watch(rt, &state))?;
+        .spawn(&rt, move || watch(rt, poll, events, &state))?;
     Ok(())
 }
 
 /// Looks repeatedly until the watch is closed. Rests without a time limit while no process is adopted.
-fn watch<R: Wait + Drop>(rt: R, state: &WatchState) {
+fn watch<R: Wait + Clock + Copy + Drop>(
+    rt: R,
+    mut poll: Poll,
+    mut events: Events<Global>,
+    state: &WatchState,
+) {
     let mut looks: u64 = 0;
     for _ in rt.forever() {
         if state.closed.load(Ordering::SeqCst) {
@@ -172,7 +212,19 @@ fn watch<R: Wait + Drop>(rt: R, state: &WatchState) {
         } else {
             None
         };
-        state.notifier.wait(&rt, longest);
+        if poll.poll(&mut events, longest).is_err() {
+            thread::sleep(&rt, Duration::from_millis(FAILED));
+        }
+        hear(rt, &events, state);
+    }
+}
+
+/// Reads the FIFOs that have something to read.
+fn hear<R: Wait + Clock + Copy + Drop>(rt: R, events: &Events<Global>, state: &WatchState) {
+    let mut clock = SystemClock::new(rt);
+    for event in events.iter() {
+        let Token(number) = event.token();
+        state.listening.lock(&rt).hear(&rt, number, clock.now());
     }
 }
 

@@ -22,6 +22,8 @@ pub enum LastChild {
     Finishing(Exit),
     /// It died, its `finish` has ended or there is none, and its death is not reported yet.
     Ended(Exit),
+    /// The same, and the next start waits until this tick of the kernel's clock: its death is reported then.
+    Held(Exit, u64),
 }
 
 impl Death {

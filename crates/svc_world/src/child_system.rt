@@ -12,8 +12,8 @@ pub trait ChildSystem {
     ghost use Rattle.std.specs.Prelude.{◌≡◌, ◌<◌, ◌≤◌, true, Option, None, List, [], ◌∷◌, IfSome, length};
     ghost use Rattle.svc_house.specs.Calls.{ExtendedWhileKept};
     ghost use Rattle.svc_world.specs.Calls.{Call, Spawned, SoughtDeath, Lingered, Signalled, Wrote, Said};
-    ghost use Rattle.svc_world.specs.Calls.{SoughtLeftover, Adopted, SoughtTick, ReadTick, ReadClock};
-    ghost use Rattle.svc_world.specs.Calls.{SoughtFinish, SoughtKillTime, SpawnedFinish, SoughtLate};
+    ghost use Rattle.svc_world.specs.Calls.{SoughtLeftover, Adopted, SoughtLate, SoughtTick, ReadTick, ReadClock};
+    ghost use Rattle.svc_world.specs.Calls.{SoughtBackoff, SoughtFinish, SoughtKillTime, SoughtReady, SpawnedFinish};
     ghost use Rattle.svc_left.specs.Leftover.{HasNumber, IsAwaited};
 
     ghost calls: { Self → Option (List Call) } = { λ _. None };
@@ -41,6 +41,15 @@ pub trait ChildSystem {
     fn kill_time(&mut self) -> Option<u64>
         ensures calls { ExtendedWhileKept (calls self.old) (calls self.new) (SoughtKillTime result ∷ []) };
 
+    /// Returns when the last child, or the adopted process, said that it is ready. Returns None if it has not, and for a
+    /// `finish`.
+    fn ready(&mut self) -> Option<Label>
+        ensures calls { ExtendedWhileKept (calls self.old) (calls self.new) (SoughtReady result ∷ []) };
+
+    /// Returns for how many seconds the next start waits after many ends. Returns None if it never waits.
+    fn backoff(&mut self) -> Option<u64>
+        ensures calls { ExtendedWhileKept (calls self.old) (calls self.new) (SoughtBackoff result ∷ []) };
+
     /// Returns how and when the last child, or the adopted process, died, once it has died. The last child may be a
     /// `finish`. Each death is reported once.
     fn death(&mut self) -> Option<Death>
@@ -56,8 +65,8 @@ pub trait ChildSystem {
         requires { 0 < pid }
         ensures calls { ExtendedWhileKept (calls self.old) (calls self.new) (Signalled sig pid ∷ []) };
 
-    /// Writes this content of a paper, of at most 160 bytes, in place of the content before. Returns whether it is
-    /// written.
+    /// Writes this content of a paper, of at most 160 bytes, in place of the content before. A paper without content is
+    /// removed. Returns whether that is done.
     fn write(&mut self, paper: Paper, content: &[u8]) -> bool
         requires { length content.now ≤ 160 }
         ensures calls { ExtendedWhileKept (calls self.old) (calls self.new) (Wrote paper content.now result ∷ []) };

@@ -10,7 +10,7 @@ use svc_exit::before_newline;
 const FINISH_SECONDS: u64 = 5;
 
 /// The ticks of the kernel's clock in a second, as it reports times (sysconf(3), `_SC_CLK_TCK`).
-const TICKS: u128 = 100;
+pub(crate) const TICKS: u128 = 100;
 
 /// The file of a service that says how long its `finish` may run.
 pub(crate) const FINISH_TIME: &str = "timeout-finish";

@@ -11,6 +11,8 @@ ghost use Rattle.svc_left.specs.Process.{IsLiving};
 
 use crate::access::{Access, given};
 use crate::neighbours::Near;
+use crate::notification::FIFO;
+use crate::output::is_fifo;
 use crate::processes::{OwnRun, path_of_process, read_front, see_all, tick_of};
 use arrayvec::{ArrayString, ArrayVec};
 use cmd_base::{StatusFront, path_by_descriptor, read_status_front};
@@ -26,6 +28,7 @@ use std::os::unix::fs::{
 use std::sync::Wait;
 use std::time::{Clock, Duration};
 use std::{fs, io, thread};
+use svc_exit::moment_in;
 use svc_left::{
     BootId, Found, Intent, Left, Leftover, PLACE_BYTES, Place, ProcessId, find, find_any_here,
     find_leftover, first_line, read_place, read_process,
@@ -620,9 +623,64 @@ impl ServiceFolder {
         self.replace("supervise/process", "supervise/process.new", line)
     }
 
-    /// Removes the counts of an earlier svscan, if they exist.
-    pub fn remove_counts(&self) -> io::Result<()> {
-        remove(&self.files, self.path("supervise/counts").as_str())
+    /// Replaces the line that says when the process said that it is ready. Removes it if there is none.
+    pub fn replace_ready(&self, line: &[u8]) -> io::Result<()> {
+        self.replace_or_remove("supervise/ready", "supervise/ready.new", line)
+    }
+
+    /// Replaces the line that says until when the next start waits. Removes it if there is none.
+    pub fn replace_backoff(&self, line: &[u8]) -> io::Result<()> {
+        self.replace_or_remove("supervise/backoff", "supervise/backoff.new", line)
+    }
+
+    /// Replaces a file as a whole by this line, or removes it if the line is empty.
+    fn replace_or_remove(&self, file: &str, new: &str, line: &[u8]) -> io::Result<()>
+        requires file { length file.now ≤ 23 }
+        requires new { length new.now ≤ 23 }
+    {
+        if line.is_empty() {
+            remove(&self.files, self.path(file).as_str())
+        } else {
+            self.replace(file, new, line)
+        }
+    }
+
+    /// Removes what an earlier svscan wrote about its own time, if it exists: the counts, and until when a start waits.
+    pub fn remove_earlier(&self) -> io::Result<()> {
+        let counts = remove(&self.files, self.path("supervise/counts").as_str());
+        counts.and(self.replace_backoff(b""))
+    }
+
+    /// Returns when the process with this number said that it is ready, if the folder says so.
+    #[inline(never)]
+    pub(crate) fn ready_since(&self, pid: u32) -> Option<Label> {
+        let path = self.path("supervise/ready");
+        let line = read_front::<HostRuntime, SETTING_BYTES>(&self.files, path.as_str()).ok()?;
+        match moment_in(line.as_slice()) {
+            Some(moment) if moment.pid == pid => Some(moment.label),
+            _ => None,
+        }
+    }
+
+    /// Removes the FIFO on which a process says that it is ready, and the word of an earlier process.
+    #[inline(never)]
+    pub(crate) fn remove_notification(&self) -> io::Result<()> {
+        remove(&self.files, self.path(FIFO).as_str())?;
+        self.replace_ready(b"")
+    }
+
+    /// Opens the FIFO on which a process says that it is ready. No read of it waits.
+    #[inline(never)]
+    pub(crate) fn open_notification(&self) -> io::Result<File> {
+        let path = self.path(FIFO);
+        if !is_fifo(&self.files, path.as_str()) {
+            return Err(Error::from(ErrorKind::InvalidInput));
+        }
+        let mut how = OpenOptions::new();
+        how.read(true).write(true);
+        let fifo = how.open(&self.files, path.as_str())?;
+        os::set_nonblocking(fifo.as_raw_fd(), true);
+        Ok(fifo)
     }
 
     /// Replaces the text of the trace. After a fault the old text is there.

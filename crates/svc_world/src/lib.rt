@@ -15,6 +15,7 @@
 
 mod access;
 mod adoption;
+mod backoff;
 mod begin;
 mod child_reaper;
 mod child_system;
@@ -23,7 +24,9 @@ mod flow;
 mod folder;
 mod kill;
 mod linger;
+mod listening;
 mod neighbours;
+mod notification;
 mod output;
 mod paper;
 mod processes;

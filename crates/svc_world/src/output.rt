@@ -4,7 +4,8 @@
 //! that writes while there is no svscan therefore gets no signal and no error: it waits once the FIFO is full, and goes
 //! on with the next svscan. Only if the folder can hold no FIFO at all is the output a pipe, which is gone when svscan
 //! ends.
-ghost use Rattle.std.specs.Prelude.{◌≡◌};
+ghost use Rattle.std.specs.Prelude.{◌≡◌, [], ◌∷◌, codes, IfOk};
+ghost use Rattle.std.specs.Process.{command_args, command_program};
 ghost use Rattle.svc_world.specs.Flow.{may_be_pipe};
 
 use crate::flow::{Flow, ServiceOutput};
@@ -29,11 +30,22 @@ pub struct OutputEnds {
     pub flow: Arc<Flow, Global>,
 }
 
-fn is_fifo<R: Files<File = File>>(files: &R, path: &str) -> bool {
+/// Returns whether there is a FIFO at a path.
+pub(crate) fn is_fifo<R: Files<File = File>>(files: &R, path: &str) -> bool {
     match fs::symlink_metadata(files, path) {
         Ok(found) => found.file_type().is_fifo(),
         Err(_) => false,
     }
+}
+
+/// Returns the command of the system's own tool that makes FIFOs for their owner alone, at the paths that follow.
+pub(crate) fn fifo_maker(alloc: Global) -> Result<Command, AllocError>
+    ensures program { IfOk result (λ command. command_program command ≡ codes "mkfifo") }
+    ensures words { IfOk result (λ command. command_args command ≡ codes "-m" ∷ codes "600" ∷ []) }
+{
+    let mut command = Command::new(alloc, "mkfifo")?;
+    command.arg("-m")?.arg("600")?;
+    Ok(command)
 }
 
 /// Makes FIFOs at these paths for their owner alone, by one call of the system's own tool.
@@ -42,8 +54,7 @@ fn make_fifos<R: Processes<Started = SystemProcess> + Wait>(
     alloc: Global,
     paths: &[String],
 ) -> io::Result<()> {
-    let mut command = Command::new(alloc, "mkfifo")?;
-    command.arg("-m")?.arg("600")?;
+    let mut command = fifo_maker(alloc)?;
     for path in paths {
         command.arg(path.as_str())?;
     }

@@ -15,6 +15,10 @@ pub enum Paper {
     Exit,
     /// How many processes began and ended.
     Counts,
+    /// When the process said that it is ready. While it has not, there is no such file.
+    Ready,
+    /// Until when the next start waits. While none waits, there is no such file.
+    Backoff,
 }
 
 /// What svscan says about a service on its standard error.
@@ -36,6 +40,8 @@ pub struct Owed {
     pub status: bool,
     pub exit: bool,
     pub counts: bool,
+    pub ready: bool,
+    pub backoff: bool,
 }
 
 impl Owed {
@@ -51,6 +57,8 @@ impl Owed {
             status: false,
             exit: false,
             counts: false,
+            ready: false,
+            backoff: false,
         }
     }
 
@@ -76,6 +84,14 @@ impl Owed {
                 counts: owed,
                 ..self
             },
+            Paper::Ready => Owed {
+                ready: owed,
+                ..self
+            },
+            Paper::Backoff => Owed {
+                backoff: owed,
+                ..self
+            },
         }
     }
 
@@ -89,6 +105,8 @@ impl Owed {
             Paper::Status => self.status,
             Paper::Exit => self.exit,
             Paper::Counts => self.counts,
+            Paper::Ready => self.ready,
+            Paper::Backoff => self.backoff,
         }
     }
 
@@ -106,6 +124,10 @@ impl Owed {
             Some(Paper::Exit)
         } else if self.counts {
             Some(Paper::Counts)
+        } else if self.ready {
+            Some(Paper::Ready)
+        } else if self.backoff {
+            Some(Paper::Backoff)
         } else {
             None
         }

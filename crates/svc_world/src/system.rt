@@ -1,12 +1,14 @@
 //! The system's own children of one service.
-ghost use Rattle.std.specs.Prelude.{◌≡◌, [], ◌∷◌, codes, option_copied, IfOk};
+ghost use Rattle.std.specs.Prelude.{◌≡◌, ◌≤◌, [], ◌∷◌, codes, option_copied, IfOk, IfSome};
 ghost use Rattle.std.specs.IoError.{error_kind};
 ghost use Rattle.std.specs.Process.{command_args, command_program};
 ghost use Rattle.svc_world.specs.Commands.{paper_name, remark_text, unable_to_run};
 ghost use Rattle.svc_world.specs.Finish.{signal_word, status_word};
 ghost use Rattle.svc_world.specs.Stats.{present_tick};
 ghost use Rattle.svc_left.specs.Leftover.{HasNumber};
+ghost use Rattle.svc_world.specs.declared.notification.TheConstants.{GREATEST};
 
+use crate::backoff::{BACKOFF, NO_BACKOFF, backoff_seconds};
 use crate::begin::Death;
 use crate::child_reaper::{ChildReaper, ChildSlot, DeathSlot, WatchedChild};
 use crate::child_system::ChildSystem;
@@ -14,6 +16,9 @@ use crate::finish::{FINISH_TIME, NO_FINISH_TIME, finish_seconds, is_late, second
 use crate::folder::{ServiceFolder, SettingText};
 use crate::kill::{KILL_TIME, NO_KILL_TIME, kill_seconds};
 use crate::linger::Linger;
+use crate::listening::{Listened, ReadySlot};
+use crate::notification::{FIFO, NO_NOTIFICATION, NOTIFICATION, descriptor_in, run_notifying};
+use crate::output::fifo_maker;
 use crate::paper::{Paper, Remark};
 use crate::processes::{AdoptedProcess, tick_of};
 use crate::surroundings::Surroundings;
@@ -23,7 +28,7 @@ use std::alloc::{AllocError, Global};
 use std::fs::File;
 use std::io;
 use std::io::{ErrorKind, PipeReader, Write};
-use std::process::{Child, Command, Processes, SystemProcess};
+use std::process::{Child, Command, Processes, Stdio, SystemProcess};
 use std::sync::{Arc, OnceLock, Wait};
 use std::time::{Clock, Duration};
 use sup_core::Sig;
@@ -53,6 +58,17 @@ enum DeathSource {
     Process(AdoptedProcess),
 }
 
+/// Where the word of a service's process is found that it is ready.
+#[derive(Drop)]
+enum ReadySource {
+    /// Nobody listens.
+    None,
+    /// The thread that watches the FIFO with this number puts it here.
+    Slot(ReadySlot, usize),
+    /// An earlier svscan has written it.
+    Known(Label),
+}
+
 /// The children of one service on this system. It says nothing to contracts, except that a child has a number.
 #[derive(Drop)]
 pub struct SystemChildren<R>
@@ -70,6 +86,7 @@ where
     clock: SystemClock<R>,
     slot: ChildSlot,
     death: DeathSource,
+    ready: ReadySource,
     // Why the last paper that could not be written failed.
     cause: Cause,
     linger: Linger,
@@ -98,6 +115,9 @@ fn run_in_session(alloc: Global) -> Result<Command, AllocError>
 
 /// What is said about a service whose `finish` can't be run, before the cause.
 const NO_FINISH: &str = "unable to run ./finish: ";
+
+/// What is said about a service whose process can't say that it is ready, before the cause.
+const NO_FIFO: &str = "unable to make supervise/notify: ";
 
 /// What is said about a service that begins a session if there is no program for that.
 const NO_SETSID: &str = "unable to run setsid: No such file or directory";
@@ -139,6 +159,8 @@ fn paper_name(paper: Paper) -> &'static str
         Paper::Status => "status",
         Paper::Exit => "exit",
         Paper::Counts => "counts",
+        Paper::Ready => "ready",
+        Paper::Backoff => "backoff",
     }
 }
 
@@ -255,6 +277,7 @@ where
             clock: SystemClock::new(runtime),
             slot,
             death: DeathSource::None,
+            ready: ReadySource::None,
             cause: Cause::Other,
             linger: Linger::new(),
         };
@@ -262,8 +285,9 @@ where
     }
 
     /// Adopts the process that already runs for the service. A look for its death finds that it is gone. The notifier
-    /// is notified once that is so.
+    /// is notified once that is so. If the process is ready, or says so later, that is found too.
     pub fn try_adopt(&mut self, pid: u32, tick: u64) -> Result<(), AllocError> {
+        self.ready = self.ready_of(pid);
         let process = AdoptedProcess {
             files: self.files,
             pid,
@@ -272,6 +296,85 @@ where
         self.death = DeathSource::Process(process);
         let notifier = Arc::try_clone(&self.notifier)?;
         self.shared.adoptions.add(&self.runtime, process, notifier)
+    }
+
+    // Returns where the word of an adopted process is found that it is ready.
+    fn ready_of(&self, pid: u32) -> ReadySource {
+        if let Some(label) = self.folder.ready_since(pid) {
+            return ReadySource::Known(label);
+        }
+        if self.descriptor().is_none() {
+            return ReadySource::None;
+        }
+        self.try_listen().unwrap_or(ReadySource::None)
+    }
+
+    // Returns the number of the descriptor on which the service's process says that it is ready, if its folder has one.
+    #[inline(never)]
+    fn descriptor(&self) -> Option<u64>
+        ensures { IfSome result (λ number. number ≤ GREATEST) }
+    {
+        let text = self.folder.setting(NOTIFICATION)?;
+        let number = descriptor_in(text.as_slice());
+        if number.is_none() {
+            self.report(NO_NOTIFICATION);
+        }
+        number
+    }
+
+    // Watches the FIFO on which the process says that it is ready.
+    fn try_listen(&self) -> io::Result<ReadySource> {
+        let slot = Arc::new(self.alloc, OnceLock::new())?;
+        let one = Listened {
+            fifo: self.folder.open_notification()?,
+            slot: Arc::try_clone(&slot)?,
+            notifier: Arc::try_clone(&self.notifier)?,
+        };
+        let number = one.number();
+        self.shared.adoptions.listen(&self.runtime, one)?;
+        Ok(ReadySource::Slot(slot, number))
+    }
+
+    // Makes a new FIFO on which the next process says that it is ready.
+    #[inline(never)]
+    fn make_fifo(&self) -> io::Result<()> {
+        self.folder.remove_notification()?;
+        let mut command = fifo_maker(self.alloc)?;
+        command.arg(FIFO)?.stderr(Stdio::null());
+        command.current_dir(self.folder.path(".").as_str())?;
+        command.spawn(&self.runtime)?.wait()?;
+        Ok(())
+    }
+
+    // Makes a new FIFO for the next process, and watches it.
+    fn listen_anew(&self) -> io::Result<ReadySource> {
+        self.make_fifo()?;
+        self.try_listen()
+    }
+
+    // Prepares that the next process says that it is ready, if the folder has the number of a descriptor. Returns that
+    // number.
+    #[inline(never)]
+    fn prepare_ready(&mut self) -> Option<u64>
+        ensures { IfSome result (λ number. number ≤ GREATEST) }
+    {
+        let number = self.descriptor()?;
+        match self.listen_anew() {
+            Ok(ready) => self.ready = ready,
+            Err(fault) => {
+                self.report_fault(NO_FIFO, &fault);
+                return None;
+            }
+        }
+        Some(number)
+    }
+
+    // Forgets where the word of the last process was to be found.
+    fn ignore_ready(&mut self) {
+        if let ReadySource::Slot(_, number) = &self.ready {
+            self.shared.adoptions.ignore(&self.runtime, *number);
+        }
+        self.ready = ReadySource::None;
     }
 
     // Writes this content of a paper into its file.
@@ -283,6 +386,8 @@ where
             Paper::Status => self.folder.replace_status(content),
             Paper::Exit => self.folder.replace_exit(content),
             Paper::Counts => self.folder.replace_counts(content),
+            Paper::Ready => self.folder.replace_ready(content),
+            Paper::Backoff => self.folder.replace_backoff(content),
         }
     }
 
@@ -320,9 +425,24 @@ where
         }
     }
 
-    /// Makes a child. If `./run` can't be executed, the child is a shell that says why.
-    fn make(&self) -> io::Result<Child<SystemProcess>> {
-        let made = if self.folder.begins_session() {
+    /// Makes a child that has this descriptor to say that it is ready.
+    #[inline(never)]
+    fn make_notifying(&self, number: u64) -> io::Result<Child<SystemProcess>>
+        requires { number ≤ GREATEST }
+    {
+        self.folder.look_at_run()?;
+        let begins_session = self.folder.begins_session();
+        self.launch(&mut run_notifying(self.alloc, number, begins_session)?)
+    }
+
+    /// Makes a child, with a descriptor to say that it is ready if there is one. If `./run` can't be executed, the child
+    /// is a shell that says why.
+    fn make(&self, descriptor: Option<u64>) -> io::Result<Child<SystemProcess>>
+        requires { IfSome descriptor (λ number. number ≤ GREATEST) }
+    {
+        let made = if let Some(number) = descriptor {
+            self.make_notifying(number)
+        } else if self.folder.begins_session() {
             self.make_in_session()
         } else {
             self.launch(&mut run(self.alloc)?)
@@ -350,11 +470,11 @@ where
         Some(text)
     }
 
-    /// Reports a `finish` that can't be run.
+    /// Reports what can't be done for the service, and why.
     #[inline(never)]
-    fn report_finish(&self, fault: &io::Error) {
+    fn report_fault(&self, what: &str, fault: &io::Error) {
         let cause = Cause::of(fault);
-        if let Ok(what) = format!(in self.alloc; "{NO_FINISH}{}", cause.words()) {
+        if let Ok(what) = format!(in self.alloc; "{what}{}", cause.words()) {
             self.report(what.as_str());
         }
     }
@@ -372,7 +492,10 @@ where
         let theirs = Arc::try_clone(&death)?;
         let child = match ended {
             Some(exit) => self.make_finish(exit)?,
-            None => self.make()?,
+            None => {
+                let descriptor = self.prepare_ready();
+                self.make(descriptor)?
+            }
         };
         let pid = child.id();
         let watched = WatchedChild {
@@ -392,6 +515,7 @@ where
     #[inline(never)]
     fn spawn(&mut self) -> Option<u32> {
         self.death = DeathSource::None;
+        self.ignore_ready();
         self.linger.begin(self.notifier.letters());
         match self.make_watched(None) {
             Ok(pid) if pid > 0 => Some(pid),
@@ -410,7 +534,7 @@ where
             Ok(pid) if pid > 0 => Some(pid),
             Ok(_) => None,
             Err(fault) => {
-                self.report_finish(&fault);
+                self.report_fault(NO_FINISH, &fault);
                 None
             }
         }
@@ -439,7 +563,26 @@ where
             },
         };
         self.death = DeathSource::None;
+        self.ignore_ready();
         Some(death)
+    }
+
+    fn ready(&mut self) -> Option<Label> {
+        match &self.ready {
+            ReadySource::None => None,
+            ReadySource::Slot(slot, _) => slot.get().copied(),
+            ReadySource::Known(label) => Some(*label),
+        }
+    }
+
+    #[inline(never)]
+    fn backoff(&mut self) -> Option<u64> {
+        let text = self.folder.setting(BACKOFF)?;
+        let seconds = backoff_seconds(text.as_slice());
+        if seconds.is_none() {
+            self.report(NO_BACKOFF);
+        }
+        seconds
     }
 
     fn lingers(&mut self) -> bool {

@@ -1,21 +1,22 @@
 //! The world of one service, over its children.
-ghost use Rattle.std.specs.Prelude.{◌≡◌, ◌<◌, IfSome};
+ghost use Rattle.std.specs.Prelude.{◌≡◌, ◌<◌, IfSome, option_copied};
 ghost use Rattle.svc_house.specs.Calls.{IsAnswer};
-ghost use Rattle.svc_world.specs.Watch.{answer_of, child_of, want_loaded};
+ghost use Rattle.svc_world.specs.Watch.{answer_of, child_of, notice, released, want_loaded};
 ghost use Rattle.tai_status.specs.Loading.{loaded_from};
 
+use crate::backoff::{Ends, asks_end, seconds_after, tick_after};
 use crate::begin::{Death, LastChild};
 use crate::child_system::ChildSystem;
 use crate::paper::{Owed, Paper, Remark};
 use std::marker::Model;
 use std::time::Duration;
 use sup_core::Sig;
-use svc_exit::{Counts, Exit, counts_text, exit_text};
+use svc_exit::{Counts, Exit, ExitText, Moment, counts_text, exit_text, moment_text};
 use svc_house::{StartAnswer, World};
 use svc_left::{Leftover, Place, ProcessId, place_line, process_line};
 use tai_status::{Label, Want, decode_front};
 
-/// The most seconds that a service rests before its next turn while it owes a paper.
+/// The most seconds that a service rests before its next turn while it owes a paper, or the next start waits.
 const OWING_REST: u64 = 1;
 
 /// The most milliseconds that a service rests before it checks again whether the time of its `finish` is over.
@@ -39,6 +40,11 @@ const LINGERING_REST: u64 = 3;
 /// If the service has a `finish`, it runs after each death, and the death is reported once `finish` has ended. Its
 /// intent and its process are in the place, so that no process of the service begins next to it, even if svscan is
 /// killed. A `finish` whose time is over gets KILL.
+///
+/// If a child says that it is ready, that is written while it lives.
+///
+/// If five children end within a minute and nobody asked them to, and the service says so in its folder, the last of
+/// these deaths is reported after a wait, so that the next start waits. A new status record ends the wait.
 #[derive(Drop)]
 pub struct ChildWorld<C: ChildSystem + Drop> {
     system: C,
@@ -50,6 +56,10 @@ pub struct ChildWorld<C: ChildSystem + Drop> {
     status: Option<[u8; 20]>,
     exit: Option<Exit>,
     counts: Counts,
+    ready: Option<Moment>,
+    backoff: Option<Moment>,
+    ends: Ends,
+    is_asked: bool,
     owed: Owed,
     is_said: bool,
     unwritten: u64,
@@ -72,6 +82,10 @@ impl<C: ChildSystem + Drop> Model for ChildWorld<C> {
       status = w.status;
       exit = w.exit;
       counts = w.counts;
+      ready = w.ready;
+      backoff = w.backoff;
+      ends = w.ends;
+      is_asked = w.is_asked;
       owed = w.owed;
       is_said = w.is_said;
       unwritten = w.unwritten;
@@ -99,6 +113,26 @@ fn child_of(child: Option<u32>) -> LastChild
     match child {
         Some(pid) => LastChild::Alive(pid),
         None => LastChild::Gone,
+    }
+}
+
+/// Returns the line about a process and a time, or nothing if there is none.
+fn notice(moment: Option<&Moment>) -> ExitText
+    ensures { result.items ≡ notice (option_copied moment.entry) }
+{
+    match moment {
+        Some(moment) => moment_text(moment),
+        None => ExitText::new(),
+    }
+}
+
+/// Returns the last child, if the start after it waits no longer.
+fn released(child: LastChild) -> LastChild
+    ensures { result ≡ released child }
+{
+    match child {
+        LastChild::Held(exit, _) => LastChild::Held(exit, 0),
+        child => child,
     }
 }
 
@@ -131,6 +165,10 @@ impl<C: ChildSystem + Drop> ChildWorld<C> {
     ghost use Rattle.svc_world.specs.Watch.{SeeksDeath, SeeksLeftover, SeeksTick, SpawnsIf, StartsBy, TakesUp, Vacates};
     ghost use Rattle.svc_world.specs.Watch.{Writes, WritesAgain, WritesAs, WritesIf, WritesIfSome, answered, begun, bereft};
     ghost use Rattle.svc_world.specs.Watch.{content_of, with_place, with_start, with_status, with_want};
+    ghost use Rattle.svc_world.specs.Watch.{AsksBackoff, AsksReady, CountsEnd, CountsIfSome, EndsHold, ForgetsReady};
+    ghost use Rattle.svc_world.specs.Watch.{Holds, HoldsOn, KeepsUntil, HoldsOrReports, LooksHeld, LooksReady, NotesReady};
+    ghost use Rattle.svc_world.specs.Watch.{PassesDeath, ReadsClock, SeeksBackoff, SeeksReady, WritesEach, notice, papers};
+    ghost use Rattle.svc_world.specs.Watch.{with_hold, with_no_backoff, with_ready, with_unasked};
 
     /// Makes the world over these children, for an svscan of this session. `place` is the place of the service as it is
     /// on disk. If `is_open`, it is the intent of an earlier svscan, and something of that start may be left over.
@@ -154,6 +192,10 @@ impl<C: ChildSystem + Drop> ChildWorld<C> {
             status: None,
             exit: None,
             counts: Counts::none(),
+            ready: None,
+            backoff: None,
+            ends: Ends::none(),
+            is_asked: false,
             owed: Owed::nothing(),
             is_said: false,
             unwritten: 0,
@@ -233,6 +275,24 @@ impl<C: ChildSystem + Drop> ChildWorld<C> {
         self.write_paper(Paper::Counts, text.as_bytes());
     }
 
+    // Writes when the last child said that it is ready, or removes that.
+    #[inline(never)]
+    fn write_ready(&mut self)
+        ensures { Writes paper.Ready (notice self.old.ready) self.old self.new }
+    {
+        let line = notice(self.ready.as_ref());
+        self.write_paper(Paper::Ready, line.as_slice());
+    }
+
+    // Writes until when the next start waits, or removes that.
+    #[inline(never)]
+    fn write_backoff(&mut self)
+        ensures { Writes paper.Backoff (notice self.old.backoff) self.old self.new }
+    {
+        let line = notice(self.backoff.as_ref());
+        self.write_paper(Paper::Backoff, line.as_slice());
+    }
+
     // Writes a paper again, if it is owed.
     fn write_again(&mut self, paper: Paper)
         ensures { WritesAgain paper self.old self.new }
@@ -258,6 +318,8 @@ impl<C: ChildSystem + Drop> ChildWorld<C> {
             }
             Paper::Exit => self.write_exit(),
             Paper::Counts => self.write_counts(),
+            Paper::Ready => self.write_ready(),
+            Paper::Backoff => self.write_backoff(),
         }
     }
 
@@ -276,6 +338,71 @@ impl<C: ChildSystem + Drop> ChildWorld<C> {
                 self.system.say(Remark::AllWritten);
             }
             _ => {}
+        }
+    }
+
+    // Writes all owed papers again, one after the other.
+    fn write_all(&mut self)
+        ensures { WritesEach papers self.old self.new }
+    {
+        self.write_again(Paper::Place);
+        self.write_again(Paper::Process);
+        self.write_again(Paper::Status);
+        self.write_again(Paper::Exit);
+        self.write_again(Paper::Counts);
+        self.write_again(Paper::Ready);
+        self.write_again(Paper::Backoff);
+    }
+
+    // Looks when the last child said that it is ready.
+    fn seek_ready(&mut self) -> Option<Label>
+        ensures { SeeksReady result self.old self.new }
+    {
+        self.system.ready()
+    }
+
+    // Sets whether the last child is ready.
+    fn set_ready(&mut self, ready: Option<Moment>)
+        ensures { self.new ≡ with_ready ready self.old }
+    {
+        self.ready = ready;
+    }
+
+    // Notes that the child with this number is ready, if it said so.
+    fn note_ready(&mut self, pid: u32, ready: Option<Label>)
+        ensures { NotesReady pid ready self.old self.new }
+    {
+        if let Some(label) = ready {
+            self.set_ready(Some(Moment { pid, label }));
+            self.write_ready();
+        }
+    }
+
+    // Looks whether the child with this number is ready, and notes it if it is.
+    fn ask_ready(&mut self, pid: u32)
+        ensures { AsksReady pid self.old self.new }
+    {
+        let ready = self.seek_ready();
+        self.note_ready(pid, ready);
+    }
+
+    // Looks whether the last child is ready, until it is.
+    fn look_ready(&mut self)
+        ensures { LooksReady self.old.child self.old.ready self.old self.new }
+    {
+        if let (LastChild::Alive(pid), None) = (self.child, self.ready) {
+            self.ask_ready(pid);
+        }
+    }
+
+    // Forgets that the last child was ready.
+    #[inline(never)]
+    fn forget_ready(&mut self)
+        ensures { ForgetsReady self.old.ready self.old self.new }
+    {
+        if self.ready.is_some() {
+            self.set_ready(None);
+            self.write_ready();
         }
     }
 
@@ -397,6 +524,7 @@ impl<C: ChildSystem + Drop> ChildWorld<C> {
     {
         self.answer = Some(answer_of(child, label));
         self.child = child_of(child);
+        self.is_asked = false;
     }
 
     // Runs the service: writes the intent, and then spawns a child.
@@ -504,11 +632,12 @@ impl<C: ChildSystem + Drop> ChildWorld<C> {
         self.place = self.place.wanting(want_in(bytes, self.place.want));
     }
 
-    // Sets the status record.
+    // Sets the status record. The next start waits no longer.
     fn set_status(&mut self, bytes: &[u8; 20])
         ensures { self.new ≡ with_status bytes.now self.old }
     {
         self.status = Some(*bytes);
+        self.child = released(self.child);
     }
 
     // Counts a status record that is not written.
@@ -534,7 +663,144 @@ impl<C: ChildSystem + Drop> ChildWorld<C> {
         self.child = LastChild::Ended(exit);
     }
 
-    // Reports a death, or keeps it if it waits.
+    // Returns for how many seconds the next start waits after many ends.
+    fn ask_backoff(&mut self) -> Option<u64>
+        ensures { AsksBackoff result self.old self.new }
+    {
+        self.system.backoff()
+    }
+
+    // Returns the same for an end that nobody asked for, if the service is to be up. Returns None for any other.
+    fn seek_backoff(&mut self) -> Option<u64>
+        ensures { SeeksBackoff self.old.is_asked self.old.place.want result self.old self.new }
+    {
+        match (self.is_asked, self.place.want) {
+            (false, Want::Up) => self.ask_backoff(),
+            _ => None,
+        }
+    }
+
+    // Counts an end that nobody asked for.
+    fn count_unasked(&mut self, tick: u64)
+        ensures { self.new ≡ with_unasked tick self.old }
+    {
+        self.ends.add(tick);
+    }
+
+    // Reads the clock.
+    fn read_clock(&mut self) -> Label
+        ensures { ReadsClock result self.old self.new }
+    {
+        self.system.now()
+    }
+
+    // Sets that a death is kept until a tick, and the next start until a time.
+    fn set_hold(&mut self, exit: Exit, until: u64, label: Label)
+        ensures { self.new ≡ with_hold exit until label self.old }
+    {
+        let pid = exit.pid;
+        self.backoff = Some(Moment { pid, label });
+        self.child = LastChild::Held(exit, until);
+    }
+
+    // Keeps a death for this many seconds from this tick on, and notes until when the next start waits.
+    fn keep_until(&mut self, tick: u64, seconds: u64, exit: Exit)
+        ensures { KeepsUntil tick seconds exit self.old self.new }
+    {
+        let label = self.read_clock();
+        let end = seconds_after(seconds, label);
+        self.set_hold(exit, tick_after(seconds, tick), end);
+        self.write_backoff();
+    }
+
+    // Notes how a child ended, and keeps its death for this many seconds from this tick on, so that the next start waits.
+    #[inline(never)]
+    fn hold(&mut self, tick: u64, seconds: u64, exit: Exit)
+        ensures { Holds tick seconds exit self.old self.new }
+    {
+        self.note_exit(&exit);
+        self.keep_until(tick, seconds, exit);
+    }
+
+    // Reports a death that nobody asked for, or keeps it if it is the fifth within a minute.
+    fn hold_or_report(
+        &mut self,
+        is_fifth: bool,
+        tick: u64,
+        seconds: u64,
+        exit: Exit,
+    ) -> Option<Label>
+        ensures { HoldsOrReports is_fifth tick seconds exit result self.old self.new }
+    {
+        if is_fifth {
+            self.hold(tick, seconds, exit);
+            None
+        } else {
+            Some(self.report_death(exit))
+        }
+    }
+
+    // Counts an end that nobody asked for, and then reports the death, or keeps it.
+    fn count_end(&mut self, seconds: u64, exit: Exit) -> Option<Label>
+        ensures { CountsEnd seconds exit result self.old self.new }
+    {
+        let tick = self.read_tick();
+        let is_fifth = self.ends.is_fifth(tick);
+        self.count_unasked(tick);
+        self.hold_or_report(is_fifth, tick, seconds, exit)
+    }
+
+    // Continues a death, if the service says for how many seconds the next start waits after many ends.
+    fn count_if_some(&mut self, seconds: Option<u64>, exit: Exit) -> Option<Label>
+        ensures { CountsIfSome seconds exit result self.old self.new }
+    {
+        match seconds {
+            Some(seconds) => self.count_end(seconds, exit),
+            None => Some(self.report_death(exit)),
+        }
+    }
+
+    // Reports a death, or keeps it so that the next start waits.
+    fn pass_death(&mut self, exit: Exit) -> Option<Label>
+        ensures { PassesDeath exit result self.old self.new }
+    {
+        let seconds = self.seek_backoff();
+        self.count_if_some(seconds, exit)
+    }
+
+    // Sets that no start waits.
+    fn clear_backoff(&mut self)
+        ensures { self.new ≡ with_no_backoff self.old }
+    {
+        self.backoff = None;
+    }
+
+    // Ends the wait of the next start, and reports the death before it.
+    #[inline(never)]
+    fn end_hold(&mut self, exit: Exit) -> Option<Label>
+        ensures { EndsHold exit result self.old self.new }
+    {
+        self.clear_backoff();
+        self.write_backoff();
+        Some(self.report_death(exit))
+    }
+
+    // Ends the wait of the next start, if it is over.
+    fn hold_on(&mut self, is_over: bool, exit: Exit) -> Option<Label>
+        ensures { HoldsOn is_over exit result self.old self.new }
+    {
+        if is_over { self.end_hold(exit) } else { None }
+    }
+
+    // Looks whether the next start still waits, after this end, until this tick.
+    fn look_held(&mut self, exit: Exit, until: u64) -> Option<Label>
+        ensures { LooksHeld exit until result self.old self.new }
+    {
+        let tick = self.read_tick();
+        self.hold_on(until <= tick, exit)
+    }
+
+    // Passes a death on, or keeps it if it waits.
     fn keep_or_report(&mut self, waits: bool, exit: Exit) -> Option<Label>
         ensures { KeepsOrReports waits exit result self.old self.new }
     {
@@ -542,7 +808,7 @@ impl<C: ChildSystem + Drop> ChildWorld<C> {
             self.keep_death(exit);
             None
         } else {
-            Some(self.report_death(exit))
+            self.pass_death(exit)
         }
     }
 
@@ -576,11 +842,11 @@ impl<C: ChildSystem + Drop> ChildWorld<C> {
     }
 
     // Records how the last child ended.
-    fn note_exit(&mut self, exit: Exit)
-        ensures { Writes paper.Exit (exit_text exit) (with_exit exit self.old) self.new }
+    fn note_exit(&mut self, exit: &Exit)
+        ensures { Writes paper.Exit (exit_text exit.now) (with_exit exit.now self.old) self.new }
     {
-        self.set_exit(exit);
-        self.write_paper(Paper::Exit, exit_text(&exit).as_slice());
+        self.set_exit(*exit);
+        self.write_paper(Paper::Exit, exit_text(exit).as_slice());
     }
 
     // Writes the intent to start a `finish` into the place. Returns whether it is written.
@@ -632,7 +898,7 @@ impl<C: ChildSystem + Drop> ChildWorld<C> {
     fn begin_finish(&mut self, exit: Exit) -> Option<Label>
         ensures { BeginsFinish exit result self.old self.new }
     {
-        self.note_exit(exit);
+        self.note_exit(&exit);
         let intended = self.intend_finish();
         let child = self.spawn_finish_if(intended, &exit);
         self.finish_by(child, exit)
@@ -653,6 +919,7 @@ impl<C: ChildSystem + Drop> ChildWorld<C> {
     fn learn_death(&mut self, exit: Exit) -> Option<Label>
         ensures { LearnsDeath exit result self.old self.new }
     {
+        self.forget_ready();
         let has = self.seek_finish();
         self.finish_if(has, exit)
     }
@@ -705,6 +972,7 @@ impl<C: ChildSystem + Drop> World for ChildWorld<C> {
         if !matches!(self.child, LastChild::Alive(number) if number == pid) {
             return;
         }
+        self.is_asked = self.is_asked || asks_end(sig);
         match self.system.death() {
             Some(death) => self.child = LastChild::Dead(death.exit_of(pid)),
             None => self.system.signal(sig, pid),
@@ -722,7 +990,7 @@ impl<C: ChildSystem + Drop> World for ChildWorld<C> {
         self.start_by(found, label);
     }
 
-    /// Writes the status record. Before it, writes the place with what is wanted now.
+    /// Writes the status record. Before it, writes the place with what is wanted now. The next start waits no longer.
     fn write(&mut self, bytes: &[u8; 20])
         ensures { Records bytes.now self.old self.new }
     {
@@ -743,7 +1011,8 @@ impl<C: ChildSystem + Drop> World for ChildWorld<C> {
     }
 
     /// Returns when the last child died, once it has died and its `finish`, if there is one, is over. This is reported
-    /// once, and how it ended is recorded then. While control bytes follow one another, they are taken first.
+    /// once, and how it ended is recorded then. While control bytes follow one another, they are taken first. If the next
+    /// start is to wait, it is reported after that.
     fn poll_death(&mut self) -> Option<Label>
         ensures { PollsDeath self.old.child result self.old self.new }
     {
@@ -753,6 +1022,7 @@ impl<C: ChildSystem + Drop> World for ChildWorld<C> {
             LastChild::Dead(exit) => self.learn_death(exit),
             LastChild::Finishing(exit) => self.seek_end(exit),
             LastChild::Ended(exit) => self.know_death(exit),
+            LastChild::Held(exit, until) => self.look_held(exit, until),
         }
     }
 
@@ -764,17 +1034,14 @@ impl<C: ChildSystem + Drop> World for ChildWorld<C> {
     }
 
     /// Writes each owed paper again, with its present content. Says so if something has become owed, or if nothing is
-    /// owed any more.
+    /// owed any more. Then looks whether the last child has become ready.
     #[inline(never)]
     fn mend(&mut self)
         ensures { Mends self.old self.new }
     {
-        self.write_again(Paper::Place);
-        self.write_again(Paper::Process);
-        self.write_again(Paper::Status);
-        self.write_again(Paper::Exit);
-        self.write_again(Paper::Counts);
+        self.write_all();
         self.say_change();
+        self.look_ready();
     }
 
     /// Returns how many seconds after it was asked to go the last child gets KILL, if its death is not known. Returns
@@ -788,15 +1055,15 @@ impl<C: ChildSystem + Drop> World for ChildWorld<C> {
         }
     }
 
-    /// Returns 3 milliseconds while a death waits, 100 while a `finish` runs, and otherwise one second while a paper is
-    /// owed.
+    /// Returns 3 milliseconds while a death waits, 100 while a `finish` runs, and otherwise one second while the next
+    /// start waits or a paper is owed.
     fn longest_rest(&self) -> Option<Duration> {
         match (self.child, self.owed.first()) {
             (LastChild::Dead(_) | LastChild::Ended(_), _) => {
                 Some(Duration::from_millis(LINGERING_REST))
             }
             (LastChild::Finishing(_), _) => Some(Duration::from_millis(FINISHING_REST)),
-            (_, Some(_)) => Some(Duration::from_secs(OWING_REST)),
+            (LastChild::Held(..), _) | (_, Some(_)) => Some(Duration::from_secs(OWING_REST)),
             (_, None) => None,
         }
     }
