@@ -11,3 +11,4 @@ pub mod Turns
 pub mod Svc
 pub mod Svstat
 pub mod Svok
+pub mod Course

@@ -11,6 +11,8 @@ use Rattle.tai_status.specs.declared.phase.Phase.{Phase}
 use Rattle.tai_status.specs.declared.phase.Phase.TheVariants as phase
 use Rattle.tai_status.specs.declared.record.Want.{Want}
 use Rattle.tai_status.specs.declared.record.Want.TheVariants.{Up, Down, Once}
+use Rattle.cmd_svc.specs.Course.{course_note}
+use Rattle.cmd_svc.specs.declared.course.Course.{Course}
 
 abbrev pub wants_up : Want → Bool
 wants_up Up = true
@@ -71,9 +73,9 @@ plain_line folder status normally_up now =
     ++ want_notes status
 
 -- the line about a service in this folder, without a newline
-abbrev pub status_line : List ℕ → Loaded → Bool → Tai64n → (finishing : Bool) → List ℕ
-status_line folder loaded normally_up now finishing =
+abbrev pub status_line : List ℕ → Loaded → Bool → Tai64n → Course → List ℕ
+status_line folder loaded normally_up now course =
     plain_line folder (status_in loaded) normally_up now
     ++ phase_notes loaded
     ++ note (is_exiting loaded) (codes ", exiting")
-    ++ note finishing (codes ", finishing")
+    ++ course_note course now

@@ -1,5 +1,5 @@
 -- What `svstat` writes, and how it ends (cr.yp.to/daemontools/svstat.html).
-use Rattle.std.specs.Prelude.{◌≡◌, ◌⊎◌, ◌&&◌, ℕ, Bool, true, false, not, is_none, List, [], ◌∷◌, ◌++◌, codes, Option, Some, None, Ok}
+use Rattle.std.specs.Prelude.{◌≡◌, ◌⊎◌, ℕ, Bool, not, List, [], ◌∷◌, ◌++◌, codes, Option, Some, None, Ok}
 use Rattle.std.specs.Prelude.{Err}
 use Rattle.tai_status.specs.Label.{Tai64n}
 use Rattle.tai_status.specs.Counted.{Device, Fails, Reports, Works, Wrote, WroteFront, device_report}
@@ -8,7 +8,8 @@ use Rattle.tai_status.specs.declared.loading.Loaded.{Loaded}
 use Rattle.tai_status.specs.declared.record.RecordFault.{RecordFault}
 use Rattle.tai_status.specs.declared.record.RecordFault.TheVariants as fault
 use Rattle.cmd_svc.specs.Line.{is_running, status_line}
-use Rattle.cmd_svc.specs.Calls.{Call, Reached, ReadStatus, SoughtAge, SoughtDown, SoughtFinish}
+use Rattle.cmd_svc.specs.Calls.{Call, Reached, ReadStatus, SoughtDown}
+use Rattle.cmd_svc.specs.Course.{SeeksCourse}
 use Rattle.cmd_svc.specs.Sight.{Sight, sight}
 use Rattle.tai_status.specs.Extended.{Extended}
 use Rattle.cmd_svc.specs.Turns.{InTurn}
@@ -16,6 +17,7 @@ use Rattle.cmd_svc.specs.Shown.{shown}
 use Rattle.cmd_svc.specs.Missing.{TellsEach, telling}
 use Rattle.cmd_svc.specs.declared.services.Unreached.{Unreached}
 use Rattle.cmd_svc.specs.declared.services.Unreached.TheVariants as unreached
+use Rattle.cmd_svc.specs.declared.course.Course.{Course}
 use Rattle.cmd_svc.specs.declared.look.Look.{Look}
 use Rattle.cmd_svc.specs.declared.look.Look.TheVariants as look
 use Rattle.cmd_svc.specs.declared.svstat.SvstatFault.{SvstatFault}
@@ -48,35 +50,16 @@ pub record FindsBad (folder : List ℕ) (cause : RecordFault) (old new : Sight) 
   pub asked : Extended old.calls new.calls (Reached folder None ∷ ReadStatus folder (Some bytes) ∷ [])
   pub unread : new.readings ≡ old.readings
 
--- the call that asks for the age of a process, if there is a `finish`
-abbrev pub calls_of_finish : (has : Bool) → (pid : ℕ) → (age : Option ℕ) → List Call
-calls_of_finish false pid age = []
-calls_of_finish true pid age = SoughtAge pid age ∷ []
-
--- It was sought whether the `finish` of a service with this process runs. It does if there is one, and the process does
--- not live.
-pub record AsksFinish (folder : List ℕ) (pid : ℕ) (finishing : Bool) (old new : Option (List Call)) : Type 0 where
-  pub has : Bool
-  pub age : Option ℕ
-  pub is : finishing ≡ (has && is_none age)
-  pub asked : Extended old new (SoughtFinish folder has ∷ calls_of_finish has pid age)
-
--- The same, and a service that does not run has no `finish` that runs.
-abbrev pub SeeksFinishing : (runs : Bool) (folder : List ℕ) (pid : ℕ) (finishing : Bool) (old new : Option (List Call))
-    → Type 0
-SeeksFinishing false folder pid finishing old new = (finishing ≡ false) × (new ≡ old)
-SeeksFinishing true folder pid finishing old new = AsksFinish folder pid finishing old new
-
--- The bytes that were read are this record. The service is normally up if no file `down` was found, it was sought whether
--- its `finish` runs, and the clock was read once.
-pub record FindsStatus (folder : List ℕ) (loaded : Loaded) (normally_up : Bool) (now : Tai64n) (finishing : Bool)
+-- The bytes that were read are this record. The service is normally up if no file `down` was found, it was sought what
+-- it does that the record does not say, and the clock was read once.
+pub record FindsStatus (folder : List ℕ) (loaded : Loaded) (normally_up : Bool) (now : Tai64n) (course : Course)
     (old new : Sight) : Type 0 where
   pub bytes : List ℕ
   pub before : Option (List Call)
   pub is : loaded_from bytes ≡ Ok loaded
   pub asked : Extended old.calls before
       (Reached folder None ∷ ReadStatus folder (Some bytes) ∷ SoughtDown folder (not normally_up) ∷ [])
-  pub finishes : SeeksFinishing (is_running (status_in loaded)) folder (status_in loaded).pid finishing before new.calls
+  pub seeks : SeeksCourse (is_running (status_in loaded)) folder (status_in loaded) course before new.calls
   pub read : Extended old.readings new.readings (now ∷ [])
 
 -- What a look at the service in a folder found
@@ -84,8 +67,8 @@ abbrev pub Finds : (folder : List ℕ) → Look → (old new : Sight) → Type 0
 Finds folder (look.Unreached why) old new = FindsNone folder why old new
 Finds folder look.Unread old new = FindsUnread folder old new
 Finds folder (look.Bad cause) old new = FindsBad folder cause old new
-Finds folder (look.Standing loaded normally_up now finishing) old new =
-    FindsStatus folder loaded normally_up now finishing old new
+Finds folder (look.Standing loaded normally_up now course) old new =
+    FindsStatus folder loaded normally_up now course old new
 
 -- Lines
 
@@ -110,8 +93,8 @@ abbrev pub look_line : (folder : List ℕ) → Look → List ℕ
 look_line folder (look.Unreached why) = folder ++ unreached_note why
 look_line folder look.Unread = folder ++ codes ": unable to read status"
 look_line folder (look.Bad cause) = folder ++ codes ": bad status record: " ++ fault_name cause
-look_line folder (look.Standing loaded normally_up now finishing) =
-    status_line folder loaded normally_up now finishing
+look_line folder (look.Standing loaded normally_up now course) =
+    status_line folder loaded normally_up now course
 
 -- the same as svstat prints it: control characters in the folder's name are escaped, and the line has no others
 abbrev pub shown_line : (folder : List ℕ) → Look → List ℕ

@@ -5,6 +5,7 @@
 //! service is, as svstat prints it (<https://cr.yp.to/daemontools/svstat.html>).
 #![tactic(auto)]
 
+mod course;
 mod escaping;
 mod form;
 mod line;
@@ -20,6 +21,7 @@ mod svstat;
 mod system;
 mod words;
 
+pub use course::{Course, NOTICE_BYTES, Notice, NoticeText, ask_course, read_moment};
 pub use escaping::shown;
 pub use form::LineForm;
 pub use line::stat_line;

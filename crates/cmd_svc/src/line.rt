@@ -2,6 +2,7 @@ ghost use Rattle.std.specs.Prelude.{◌≡◌, ◌++◌, string_bytes, decimal, 
 ghost use Rattle.cmd_svc.specs.Line.{status_line, is_running, is_exiting, state_text, normal_notes, phase_notes};
 ghost use Rattle.cmd_svc.specs.Line.{want_notes, note};
 
+use crate::course::{Course, push_course};
 use itoa::Buffer;
 use std::alloc::{AllocError, Allocator};
 use tai_status::{Label, Loaded, Phase, View, Want};
@@ -17,7 +18,9 @@ use tai_status::{Label, Loaded, Phase, View, Want};
 /// - `, want down` if it runs, and is to be down;
 /// - `, starting`, `, settling`, `, resting` or `, gone` if a record of 20 bytes says that supervise is in this phase;
 /// - `, exiting` if a record of 20 bytes says that supervise is to end;
-/// - `, finishing` if its process has ended, and its `finish` runs.
+/// - `, ready N seconds` if its process said so, N whole seconds ago;
+/// - `, finishing` if its process has ended, and its `finish` runs;
+/// - `, backoff N seconds` if its processes end too often, and the next start waits for so long.
 ///
 /// It runs if its process number is at least 1. The line has no newline. Returns `AllocError` only if the allocator
 /// refuses the memory for the line.
@@ -27,10 +30,10 @@ pub fn stat_line<A: Allocator>(
     loaded: &Loaded,
     normally_up: bool,
     now: &Label,
-    finishing: bool,
+    course: &Course,
 ) -> Result<String<A>, AllocError>
     ensures { IfOk result (λ line. string_bytes line
-        ≡ status_line dir.now loaded.now normally_up now.now finishing) }
+        ≡ status_line dir.now loaded.now normally_up now.now course.now) }
 {
     let view = loaded.view();
     let seconds = now.sec.saturating_sub(view.label.sec);
@@ -45,7 +48,7 @@ pub fn stat_line<A: Allocator>(
     line.push_str(want_note(&view))?;
     line.push_str(phase_note(loaded))?;
     line.push_str(exiting_note(loaded))?;
-    line.push_str(finishing_note(finishing))?;
+    push_course(&mut line, course, now)?;
     Ok(line)
 }
 
@@ -57,7 +60,7 @@ pub(crate) fn is_running(view: &View) -> bool
 }
 
 /// Writes a number at the end of a text.
-fn push_number<A: Allocator>(out: &mut String<A>, number: u64) -> Result<(), AllocError>
+pub(crate) fn push_number<A: Allocator>(out: &mut String<A>, number: u64) -> Result<(), AllocError>
     ensures { OnOk result (string_bytes out.new ≡ string_bytes out.old ++ decimal number) }
 {
     let mut buffer = Buffer::new();
@@ -129,11 +132,4 @@ fn exiting_note(loaded: &Loaded) -> &'static str
         Loaded::New(full) if full.exiting => ", exiting",
         _ => "",
     }
-}
-
-/// Returns the note for a service whose `finish` runs.
-fn finishing_note(finishing: bool) -> &'static str
-    ensures { result.now ≡ note finishing (codes ", finishing") }
-{
-    if finishing { ", finishing" } else { "" }
 }

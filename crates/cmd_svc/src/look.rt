@@ -1,11 +1,10 @@
 //! A look at a service.
 ghost use Rattle.std.specs.Prelude.{◌≡◌, ◌++◌, string_bytes, IfOk};
 ghost use Rattle.cmd_svc.specs.Sight.{sight};
-ghost use Rattle.tai_status.specs.Loading.{status_in};
-ghost use Rattle.cmd_svc.specs.Line.{is_running};
-ghost use Rattle.cmd_svc.specs.Svstat.{AsksFinish, Finds, SeeksFinishing, fault_name, look_line, unreached_note};
+ghost use Rattle.cmd_svc.specs.Svstat.{Finds, fault_name, look_line, unreached_note};
 
-use crate::line::{is_running, stat_line};
+use crate::course::{Course, ask_course};
+use crate::line::stat_line;
 use crate::services::{Services, Unreached};
 use std::alloc::{AllocError, Allocator};
 use tai_status::{Label, Loaded, RecordFault, TimeSource, decode_front};
@@ -19,40 +18,17 @@ pub enum Look {
     Unread,
     /// Its status is not a record.
     Bad(RecordFault),
-    /// Its status; whether it is normally up; when it was looked at; and whether its `finish` runs.
+    /// Its status; whether it is normally up; when it was looked at; and what it does that its status does not say.
     Standing {
         loaded: Loaded,
         normally_up: bool,
         now: Label,
-        finishing: bool,
+        course: Course,
     },
 }
 
-/// Returns whether the `finish` of a service with this process runs: its folder has one, and the process does not live.
-fn ask_finish<S: Services>(services: &mut S, folder: &str, pid: u32) -> bool
-    ensures { AsksFinish folder.now pid result (S.calls services.old) (S.calls services.new) }
-{
-    if !services.has_finish(folder) {
-        return false;
-    }
-    services.age(pid).is_none()
-}
-
-/// Returns whether the `finish` of a service runs: its record names a process, its folder has a `finish`, and the process
-/// does not live.
-fn is_finishing<S: Services>(services: &mut S, folder: &str, loaded: &Loaded) -> bool
-    ensures { SeeksFinishing (is_running (status_in loaded.now)) folder.now (status_in loaded.now).pid result
-        (S.calls services.old) (S.calls services.new) }
-{
-    let view = loaded.view();
-    if !is_running(&view) {
-        return false;
-    }
-    ask_finish(services, folder, view.pid)
-}
-
-/// Looks at the service in a folder: whether it is supervised, then its status, then its file `down`, whether its
-/// `finish` runs, and the clock. The first of these that fails ends the look.
+/// Looks at the service in a folder: whether it is supervised, then its status, then its file `down`, what it
+/// does that its status does not say, and the clock. The first of these that fails ends the look.
 pub fn look_at<S: Services, C: TimeSource>(services: &mut S, clock: &mut C, folder: &str) -> Look
     ensures { Finds folder.now result (sight (S.calls services.old) (C.readings clock.old))
         (sight (S.calls services.new) (C.readings clock.new)) }
@@ -67,7 +43,7 @@ pub fn look_at<S: Services, C: TimeSource>(services: &mut S, clock: &mut C, fold
         Ok(loaded) => Look::Standing {
             loaded,
             normally_up: !services.has_down(folder),
-            finishing: is_finishing(services, folder, &loaded),
+            course: ask_course(services, folder, &loaded),
             now: clock.now(),
         },
         Err(fault) => Look::Bad(fault),
@@ -132,7 +108,7 @@ pub(crate) fn look_line<A: Allocator>(
             loaded,
             normally_up,
             now,
-            finishing,
-        } => stat_line(alloc, folder, loaded, *normally_up, now, *finishing),
+            course,
+        } => stat_line(alloc, folder, loaded, *normally_up, now, course),
     }
 }

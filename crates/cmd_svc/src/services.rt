@@ -1,4 +1,5 @@
 //! The folders of services, as a client sees them.
+use crate::course::{Notice, NoticeText};
 use cmd_base::StatusFront;
 use std::io;
 use tai_status::Cause;
@@ -17,9 +18,9 @@ pub enum Unreached {
 /// The folders of services, as a client reaches them. Contracts see which calls were made and their results, while
 /// these are recorded.
 pub trait Services {
-    ghost use Rattle.std.specs.Prelude.{◌∷◌, [], Option, Some, None, List, IfOk, IfErr, OnOk, OnErr};
+    ghost use Rattle.std.specs.Prelude.{◌∷◌, [], Option, Some, None, List, IfOk, IfErr, OnOk, OnErr, option_map};
     ghost use Rattle.cmd_svc.specs.Calls.{Call, Sent, Reached, ReadStatus, SoughtAge, SoughtChange, SoughtDown};
-    ghost use Rattle.cmd_svc.specs.Calls.{SoughtFinish, SoughtFolder};
+    ghost use Rattle.cmd_svc.specs.Calls.{ReadNotice, SoughtFinish, SoughtFolder};
     ghost use Rattle.tai_status.specs.Extended.{Extended};
 
     ghost calls: { Self → Option (List Call) } = { λ _. None };
@@ -51,9 +52,13 @@ pub trait Services {
     fn has_finish(&mut self, folder: &str) -> bool
         ensures sought { Extended (calls self.old) (calls self.new) (SoughtFinish folder.now result ∷ []) };
 
+    /// Returns the text of a notice of svscan about the process of the service in a folder, if it can be read.
+    fn read_notice(&mut self, folder: &str, notice: Notice) -> Option<NoticeText>
+        ensures read { Extended (calls self.old) (calls self.new)
+            (ReadNotice folder.now notice (option_map (λ text. text.items) result) ∷ []) };
+
     /// Returns when something in the folder `supervise` of the service was last made, replaced or removed, in
-    /// nanoseconds since
-    /// 1970. Returns None if that can't be found.
+    /// nanoseconds since 1970. Returns None if that can't be found.
     fn changed_at(&mut self, folder: &str) -> Option<u64>
         ensures sought { Extended (calls self.old) (calls self.new) (SoughtChange folder.now result ∷ []) };
 

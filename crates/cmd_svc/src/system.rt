@@ -4,6 +4,7 @@ ghost use Rattle.std.specs.IoError.{error_kind};
 ghost use Rattle.cmd_svc.specs.Paths.{FitsAddress};
 ghost use Rattle.cmd_svc.specs.Connecting.{unreached_by};
 
+use crate::course::{NOTICE_BYTES, Notice, NoticeText};
 use crate::process::{age_at, living_tick};
 use crate::services::{Services, Unreached};
 use arrayvec::ArrayString;
@@ -144,6 +145,32 @@ fn nanoseconds(seconds: u64, rest: u64) -> Option<u64>
     seconds.checked_mul(1_000_000_000)?.checked_add(rest)
 }
 
+/// Returns the path of a notice in the folder of a service.
+fn notice_path(notice: Notice) -> &'static str {
+    match notice {
+        Notice::Exit => "/supervise/exit",
+        Notice::Ready => "/supervise/ready",
+        Notice::Backoff => "/supervise/backoff",
+    }
+}
+
+/// Reads a notice of the service in a folder. If something other than a file is there, it is not opened: that could
+/// wait.
+fn read_notice<R: Files<File = File> + Env>(
+    runtime: &R,
+    folder: &str,
+    notice: Notice,
+) -> io::Result<NoticeText> {
+    let path = service_path(runtime, folder, notice_path(notice))?;
+    if !fs::metadata(runtime, path.as_str())?.is_file() {
+        return Err(Error::from(ErrorKind::InvalidInput));
+    }
+    let mut text = NoticeText::new();
+    let file = fs::open(runtime, path.as_str())?;
+    io::copy(&mut file.take(NOTICE_BYTES as u64), &mut text)?;
+    Ok(text)
+}
+
 /// Returns when a folder was last changed, in nanoseconds since 1970. Returns None for earlier times, and after the
 /// year 2554.
 fn changed_at(folder: &Metadata) -> Option<u64> {
@@ -175,6 +202,10 @@ impl<R: Files<File = File> + Net + Env + Clock + Drop> Services for SystemServic
 
     fn has_finish(&mut self, folder: &str) -> bool {
         is_there(&self.runtime, folder, "/finish")
+    }
+
+    fn read_notice(&mut self, folder: &str, notice: Notice) -> Option<NoticeText> {
+        read_notice(&self.runtime, folder, notice).ok()
     }
 
     fn changed_at(&mut self, folder: &str) -> Option<u64> {

@@ -27,6 +27,6 @@ returns-in-Ok-decode_front g c =
           (SoughtDown folder (not (not c.has_down.result)) ∷ [])
           (extended-then past asked read (Reached folder None ∷ []) (ReadStatus folder (Some bytes) ∷ []) first second)
           third;
-      finishes = c.is_finishing.ensures;
+      seeks = c.ask_course.ensures;
       read = c.now.ensures;
     }
