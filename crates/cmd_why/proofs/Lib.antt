@@ -1,4 +1,3 @@
 pub mod Columns
-pub mod Exits
 pub mod Lasts
 pub mod Stretches

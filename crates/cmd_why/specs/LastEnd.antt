@@ -1,8 +1,7 @@
 -- The last end of a service's process, from its trace and from its file `exit`: the later of the two.
-use Rattle.std.specs.Prelude.{◌≡◌, ◌<◌, ◌^◌, ℕ, nat_lt, ◌==◌, ◌&&◌, Bool, if◌then◌else◌, List, Option, Some, None}
+use Rattle.std.specs.Prelude.{nat_lt, ◌==◌, ◌&&◌, Bool, if◌then◌else◌, Option, Some, None}
 use Rattle.std.specs.Prelude.{option_map}
-use Rattle.tai_status.specs.Label.{Tai64n, IsLabel}
-use Rattle.svc_exit.specs.Exits.{IsEnding, exit_text}
+use Rattle.tai_status.specs.Label.{Tai64n}
 use Rattle.svc_exit.specs.declared.ending.Ending.{Ending}
 use Rattle.svc_exit.specs.declared.exit.Exit.{Exit}
 use Rattle.cmd_why.specs.Facts.{nanos, same_label}
@@ -10,19 +9,6 @@ use Rattle.cmd_why.specs.declared.facts.Ended.{Ended}
 use Rattle.cmd_why.specs.declared.facts.Facts.{Facts}
 use Rattle.cmd_why.specs.declared.last_ends.LastEnd.{LastEnd}
 use Rattle.cmd_why.specs.declared.last_ends.LastEnd.TheVariants.{Traced, Recorded}
-
--- The file `exit`
-
--- The number, the way to end and the label of an exit fit their types.
-pub record IsExit (exit : Exit) : Type 0 where
-  pub pid : exit.pid < 2 ^ 32
-  pub ending : IsEnding exit.ending
-  pub label : IsLabel exit.label
-
--- what the line of an exit says; None if it is not the line of any exit
-abbrev pub Reads : (line : List ℕ) → Option Exit → Type 0
-Reads line (Some exit) = line ≡ exit_text exit
-Reads line None = (exit : Exit) → IsExit exit → line ≡ exit_text exit → ⊥
 
 -- The last end
 

@@ -5,3 +5,4 @@ pub mod Sentences
 pub mod Texts
 pub mod Timeline
 pub mod Why
+pub mod Courses

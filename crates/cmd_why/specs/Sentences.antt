@@ -17,10 +17,12 @@ use Rattle.svc_exit.specs.Exits.{signal_name as name_of_signal}
 use Rattle.svc_exit.specs.declared.ending.Ending.{Ending}
 use Rattle.svc_exit.specs.declared.ending.Ending.TheVariants.{Status as OfStatus, Signal}
 use Rattle.cmd_svc.specs.Line.{is_running, seconds, note, normal_notes}
+use Rattle.cmd_svc.specs.declared.course.Course.{Course}
 use Rattle.cmd_why.specs.declared.facts.Ended.{Ended}
 use Rattle.cmd_why.specs.declared.facts.Facts.{Facts}
 use Rattle.cmd_why.specs.declared.last_ends.LastEnd.{LastEnd}
 use Rattle.cmd_why.specs.declared.last_ends.LastEnd.TheVariants.{Traced, Recorded}
+use Rattle.cmd_why.specs.Courses.{course_sentence}
 use Rattle.cmd_why.specs.Facts.{nanos}
 use Rattle.cmd_why.specs.LastEnd.{time_of_end}
 use Rattle.svc_exit.specs.declared.exit.Exit.{Exit}
@@ -151,17 +153,6 @@ is_before status end = is_running status && nat_le (nanos (time_of_end end)) (na
 abbrev pub end_opening : (before : Bool) → List ℕ
 end_opening before = if before then codes " Before it process " else codes " Process "
 
--- Whether the `finish` of a service runs: there is one, the record has a process, and only the file `exit` says that this
--- process ended after it began. The death counts after `finish`.
-abbrev pub is_finishing : Status → LastEnd → (has_finish : Bool) → Bool
-is_finishing status (Recorded exit) has_finish =
-    has_finish && (is_running status && ((exit.pid == status.pid) && not (is_before status (Recorded exit))))
-is_finishing status (Traced ended ending) has_finish = false
-
-abbrev pub finish_sentence : Status → Option LastEnd → (has_finish : Bool) → List ℕ
-finish_sentence status (Some end) has_finish = note (is_finishing status end has_finish) (codes " Its finish runs.")
-finish_sentence status None has_finish = []
-
 -- the sentence about the last end
 abbrev pub end_sentence : Status → Option LastEnd → List ℕ
 end_sentence status (Some end) = end_opening (is_before status end) ++ last_words end
@@ -233,7 +224,7 @@ starts_sentence (Some facts) = count_sentence facts.starts facts.unasked (has_al
 
 -- the line about a service in this folder, without a newline
 abbrev pub why_line : (folder : List ℕ) → Loaded → (normally_up : Bool) → Option Facts → Option LastEnd
-    → (has_finish : Bool) → (time : List ℕ) → (now : Tai64n) → List ℕ
-why_line folder loaded normally_up facts last has_finish time now =
+    → Course → (course_time : List ℕ) → (time : List ℕ) → (now : Tai64n) → List ℕ
+why_line folder loaded normally_up facts last course course_time time now =
     folder ++ state_text loaded normally_up time now ++ past_sentences (status_in loaded) facts last
-    ++ finish_sentence (status_in loaded) last has_finish ++ starts_sentence facts
+    ++ course_sentence course course_time ++ starts_sentence facts

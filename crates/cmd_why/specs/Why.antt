@@ -16,6 +16,9 @@ use Rattle.sup_trace.specs.Reading.{content_from}
 use Rattle.sup_trace.specs.declared.fault.TraceFault.{TraceFault}
 use Rattle.cmd_base.specs.Known.{IsKnown}
 use Rattle.cmd_svc.specs.Calls.{Call, Reached, ReadStatus, SoughtDown}
+use Rattle.cmd_svc.specs.Course.{SeeksCourse}
+use Rattle.cmd_svc.specs.Line.{is_running}
+use Rattle.cmd_svc.specs.declared.course.Course.{Course}
 use Rattle.cmd_svc.specs.declared.services.Unreached.{Unreached}
 use Rattle.cmd_svc.specs.declared.services.Unreached.TheVariants as unreached
 use Rattle.cmd_svc.specs.Shown.{shown}
@@ -26,7 +29,9 @@ use Rattle.cmd_svc.specs.Turns.{InTurn}
 use Rattle.svc_exit.specs.declared.exit.Exit.{Exit}
 use Rattle.cmd_why.specs.Texts.{Knowledge}
 use Rattle.cmd_why.specs.Facts.{facts_of, leads_to}
-use Rattle.cmd_why.specs.LastEnd.{Reads, last_end}
+use Rattle.svc_exit.specs.Exits.{Reads}
+use Rattle.cmd_why.specs.Courses.{time_of_course}
+use Rattle.cmd_why.specs.LastEnd.{last_end}
 use Rattle.cmd_why.specs.Sentences.{why_line}
 use Rattle.cmd_why.specs.Timeline.{bar_of, drawing_lines, left_end}
 use Rattle.cmd_why.specs.declared.lines.Absence.{Absence}
@@ -85,7 +90,7 @@ found_line folder found.Unread = folder ++ codes " is supervised, but its status
 found_line folder (found.Bad cause) =
     folder ++ codes " is supervised, but its status is no record: " ++ fault_name cause ++ codes "."
 found_line folder (found.Standing s) =
-    why_line folder s.loaded s.normally_up s.facts s.last s.has_finish s.time.bytes s.now
+    why_line folder s.loaded s.normally_up s.facts s.last s.course s.course_time.bytes s.time.bytes s.now
 
 -- what is drawn about it
 abbrev pub drawing_in : Found → Drawing
@@ -150,12 +155,15 @@ IsDrawing times false content status now drawn = drawn ≡ drawing.Unasked
 IsDrawing times true None status now drawn = drawn ≡ drawing.Untraced
 IsDrawing times true (Some content) status now drawn = IsPictureIn times content status now drawn
 
--- The bytes that were read are this record, and the service is normally up if no file `down` was found.
-pub record ReachesStanding (folder : List ℕ) (loaded : Loaded) (normally_up : Bool) (past now : Option (List Call))
-    : Type 0 where
+-- The bytes that were read are this record, and the service is normally up if no file `down` was found. Then it was sought
+-- what it does that the record does not say.
+pub record ReachesStanding (folder : List ℕ) (loaded : Loaded) (normally_up : Bool) (course : Course)
+    (past now : Option (List Call)) : Type 0 where
   pub bytes : List ℕ
+  pub before : Option (List Call)
   pub is : loaded_from bytes ≡ Ok loaded
-  pub asked : Extended past now
+  pub seeks : SeeksCourse (is_running (status_in loaded)) folder (status_in loaded) course before now
+  pub asked : Extended past before
       (Reached folder None ∷ ReadStatus folder (Some bytes) ∷ SoughtDown folder (not normally_up) ∷ [])
 
 -- The bytes that were read are not a record, for this reason.
@@ -174,17 +182,18 @@ pub record ReachesNobody (k : Knowledge) (folder : List ℕ) (absence : Absence)
   pub asked : Extended past now (Reached folder (Some why) ∷ [])
 
 -- What was asked of the service in a folder, with the results: whether it is supervised; only then its status; and only
--- if that is a record, its file `down`.
+-- if that is a record, its file `down`, and what it does that the record does not say.
 abbrev pub Reaches : Knowledge → (folder : List ℕ) → Reach → (past now : Option (List Call)) → Type 0
 Reaches k folder (reach.Absent absence) past now = ReachesNobody k folder absence past now
 Reaches k folder reach.Unread past now = Extended past now (Reached folder None ∷ ReadStatus folder None ∷ [])
 Reaches k folder (reach.Bad cause) past now = ReachesBad folder cause past now
-Reaches k folder (reach.Standing loaded normally_up) past now = ReachesStanding folder loaded normally_up past now
+Reaches k folder (reach.Standing loaded normally_up course) past now =
+    ReachesStanding folder loaded normally_up course past now
 
 -- The trace of a service was read, and then the clock, once. Its state is said from its record, that trace and this
 -- reading, and the last end of a process from that trace and the file `exit`. A timeline is drawn if it is asked for.
 pub record FindsStanding (k : Knowledge) (timeline : Bool) (folder : List ℕ) (loaded : Loaded) (normally_up : Bool)
-    (past now : Option (List Tai64n)) (s : Standing) : Type 0 where
+    (course : Course) (past now : Option (List Tai64n)) (s : Standing) : Type 0 where
   pub content : Option Content
   pub trace : IsTraceOf (k.traces folder) content
   pub read : Extended past now (s.now ∷ [])
@@ -194,7 +203,8 @@ pub record FindsStanding (k : Knowledge) (timeline : Bool) (folder : List ℕ) (
   pub exit : Option Exit
   pub exit_is : IsExitOf (k.exits folder) exit
   pub last : s.last ≡ last_end s.facts exit
-  pub finish : IsKnown (k.finishes folder) s.has_finish
+  pub course_is : s.course ≡ course
+  pub course_time : IsKnown (k.times (time_of_course course (status_in loaded).label)) s.course_time.bytes
   pub time : IsKnown (k.times (status_in loaded).label) s.time.bytes
   pub drawing : IsDrawing k.times timeline content (status_in loaded) s.now s.drawing
 
@@ -204,8 +214,8 @@ abbrev pub Finds : Knowledge → (timeline : Bool) → (folder : List ℕ) → R
 Finds k timeline folder (reach.Absent absence) (found.Absent content) past now = (content ≡ absence) × (now ≡ past)
 Finds k timeline folder reach.Unread found.Unread past now = now ≡ past
 Finds k timeline folder (reach.Bad cause) (found.Bad content) past now = (content ≡ cause) × (now ≡ past)
-Finds k timeline folder (reach.Standing loaded normally_up) (found.Standing s) past now =
-    FindsStanding k timeline folder loaded normally_up past now s
+Finds k timeline folder (reach.Standing loaded normally_up course) (found.Standing s) past now =
+    FindsStanding k timeline folder loaded normally_up course past now s
 Finds k timeline folder other found past now = ⊥
 
 -- Services in turn

@@ -1,18 +1,12 @@
 //! The last end of a service's process, from its trace and its file `exit`.
 ghost use Rattle.std.specs.Prelude.{◌≡◌};
 ghost use Rattle.std.specs.Option.{option_copied};
-ghost use Rattle.cmd_why.specs.LastEnd.{IsExit, Reads, ended_in, how, is_later, is_of_end, last_end, later};
+ghost use Rattle.cmd_why.specs.LastEnd.{ended_in, how, is_later, is_of_end, last_end, later};
 ghost use Rattle.cmd_why.specs.LastEnd.{time_of_end, traced_end};
-ghost use Rattle.svc_exit.specs.declared.exit.Exit.{Exit};
-ghost use Rattle.svc_exit.specs.Exits.{exit_text};
 
 use crate::facts::{Ended, Facts, nanos, same_label};
-use sup_core::{read_label, read_number, split_field};
-use svc_exit::{Ending, Exit, read_ending};
+use svc_exit::{Ending, Exit};
 use tai_status::Label;
-
-/// The number of bytes at the end of a line of `exit`: its label and the newline.
-const LINE_END: usize = 26;
 
 /// The last end of a service's process.
 #[derive(Clone, Copy, Debug, PartialEq, Eq)]
@@ -21,35 +15,6 @@ pub enum LastEnd {
     Traced(Ended, Option<Ending>),
     /// Only the file `exit` has it.
     Recorded(Exit),
-}
-
-/// Returns the process number at the beginning of a line.
-fn pid_in(line: &[u8]) -> Option<u32>
-    ensures { (exit : Exit) → IsExit exit → line.now ≡ exit_text exit → result ≡ Some exit.pid }
-{
-    let number = read_number(split_field(line).0)?;
-    u32::try_from(number).ok()
-}
-
-/// Returns the label at the end of a line.
-fn label_in(line: &[u8]) -> Option<Label>
-    ensures { (exit : Exit) → IsExit exit → line.now ≡ exit_text exit → result ≡ Some exit.label }
-{
-    if line.len() < LINE_END {
-        return None;
-    }
-    read_label(&line[line.len() - LINE_END..line.len() - 1])
-}
-
-/// Returns what a line of `exit`, with its newline, says: which process ended, how, and when. Returns None if it is not
-/// the line of any exit.
-pub fn read_exit_line(line: &[u8]) -> Option<Exit>
-    ensures { Reads line.now result }
-{
-    let pid = pid_in(line)?;
-    let label = label_in(line)?;
-    let ending = read_ending(line, pid, &label)?;
-    Some(Exit { pid, ending, label })
 }
 
 /// Returns whether a line of `exit` is about the same process, and the same time, as an end in the trace.

@@ -5,6 +5,7 @@
 //! into words. [`run_why`] is the command.
 #![tactic(auto)]
 
+mod courses;
 mod entries;
 mod facts;
 mod last_ends;
@@ -20,7 +21,7 @@ pub use entries::{Kind, before_last, behind_last, last_of};
 pub use facts::{
     Ended, FLAPPING, Facts, facts_of, last_signal, last_want, recent_starts, unasked_starts,
 };
-pub use last_ends::{LastEnd, last_end, read_exit_line};
+pub use last_ends::{LastEnd, last_end};
 pub use lines::{Absence, Drawing, Found, Picture, Standing, absence_of, found_line, found_text};
 pub use sentences::why_line;
 pub use sources::{Evidence, LocalTime, LocalTimes, ServiceEvidence, ServiceFiles};

@@ -9,7 +9,7 @@ use crate::last_ends::LastEnd;
 use crate::sentences::why_line;
 use crate::sources::LocalTime;
 use crate::timeline::{Bar, COLUMNS};
-use cmd_svc::{Unreached, fault_name, shown};
+use cmd_svc::{Course, Unreached, fault_name, shown};
 use std::alloc::{AllocError, Allocator};
 use std::io::ErrorKind;
 use tai_status::{Label, Loaded, RecordFault};
@@ -72,8 +72,10 @@ pub struct Standing {
     pub facts: Option<Facts>,
     /// The last end of one of its processes, from its trace and its file `exit`.
     pub last: Option<LastEnd>,
-    /// Whether its folder has a file `finish`.
-    pub has_finish: bool,
+    /// What it does that its status does not say.
+    pub course: Course,
+    /// The local time of that, or of the record's label.
+    pub course_time: LocalTime,
     /// The local time of the record's label.
     pub time: LocalTime,
     /// When it was looked at.
@@ -174,7 +176,8 @@ pub fn found_line<A: Allocator>(
             standing.normally_up,
             standing.facts.as_ref(),
             standing.last.as_ref(),
-            standing.has_finish,
+            &standing.course,
+            standing.course_time.as_str(),
             standing.time.as_str(),
             &standing.now,
         ),

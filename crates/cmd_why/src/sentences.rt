@@ -2,8 +2,7 @@
 ghost use Rattle.std.specs.Prelude.{◌≡◌, ◌++◌, string_bytes, decimal, codes, IfOk, OnOk};
 ghost use Rattle.cmd_svc.specs.Line.{is_running, note};
 ghost use Rattle.cmd_why.specs.Sentences.{cause_sentence, count_sentence, count_words, end_text, ended_words};
-ghost use Rattle.cmd_why.specs.Sentences.{end_opening, end_sentence, exit_words, finish_sentence, how_words, is_before};
-ghost use Rattle.cmd_why.specs.Sentences.{is_finishing, led_sentences};
+ghost use Rattle.cmd_why.specs.Sentences.{end_opening, end_sentence, exit_words, how_words, is_before, led_sentences};
 ghost use Rattle.cmd_why.specs.Sentences.{last_words, past_sentences, phase_text, process_text, starts_sentence};
 ghost use Rattle.cmd_why.specs.Sentences.{unstarted_text};
 ghost use Rattle.cmd_why.specs.Sentences.{side_text, signal_words, since_text, state_text, want_words, wanted_at};
@@ -13,8 +12,10 @@ ghost use Rattle.cmd_why.specs.Sentences.{ending_words, notes_text, signal_end, 
 ghost use Rattle.cmd_why.specs.Sentences.{tenths_text};
 ghost use Rattle.std.specs.Option.{option_copied};
 
+use crate::courses::push_course;
 use crate::facts::{Ended, FLAPPING, Facts, nanos};
 use crate::last_ends::{LastEnd, time_of_end};
+use cmd_svc::Course;
 use itoa::Buffer;
 use std::alloc::{AllocError, Allocator};
 use sup_core::{byte_text, sig_name, signal_of};
@@ -62,7 +63,9 @@ use tai_status::{Label, Loaded, Phase, View, Want};
 /// - `It has not run since supervise began.` if nothing was folded, there is no process before the entries, and no
 ///   start among them.
 ///
-/// - `Its finish runs.` if the service is up and has a `finish`, and only the file `exit` has the end of its process.
+/// - `It has been ready since TIME.` if its process said so;
+/// - `Its finish runs.` if the file `exit` says that its process has ended, and it has a `finish`;
+/// - `Its processes end too often: the next start waits until TIME.` if it does.
 ///
 /// Starts come last:
 ///
@@ -80,19 +83,20 @@ pub fn why_line<A: Allocator>(
     normally_up: bool,
     facts: Option<&Facts>,
     last: Option<&LastEnd>,
-    has_finish: bool,
+    course: &Course,
+    course_time: &str,
     time: &str,
     now: &Label,
 ) -> Result<String<A>, AllocError>
     ensures { IfOk result (λ line. string_bytes line
         ≡ why_line dir.now loaded.now normally_up (option_copied facts.entry) (option_copied last.entry)
-        has_finish time.now now.now) }
+        course.now course_time.now time.now now.now) }
 {
     let view = loaded.view();
     let mut line = String::from_str(alloc, dir)?;
     push_state(&mut line, loaded, normally_up, time, now)?;
     push_past(&mut line, &view, facts, last)?;
-    line.push_str(finish_sentence(&view, last, has_finish))?;
+    push_course(&mut line, course, course_time)?;
     push_traced_starts(&mut line, facts)?;
     Ok(line)
 }
@@ -461,29 +465,6 @@ fn end_opening(before: bool) -> &'static str
         " Before it process "
     } else {
         " Process "
-    }
-}
-
-/// Returns whether the `finish` of a service runs: there is one, the record has a process, and only the file `exit` says
-/// that this process ended after it began.
-fn is_finishing(status: &View, end: &LastEnd, has_finish: bool) -> bool
-    ensures { result ≡ is_finishing status.now end.now has_finish }
-{
-    match end {
-        LastEnd::Recorded(exit) => {
-            has_finish && is_running(status) && exit.pid == status.pid && !is_before(status, end)
-        }
-        LastEnd::Traced(..) => false,
-    }
-}
-
-/// Returns whether the `finish` of a service runs, in a sentence.
-fn finish_sentence(status: &View, last: Option<&LastEnd>, has_finish: bool) -> &'static str
-    ensures { result.now ≡ finish_sentence status.now (option_copied last.entry) has_finish }
-{
-    match last {
-        Some(end) if is_finishing(status, end, has_finish) => " Its finish runs.",
-        _ => "",
     }
 }
 

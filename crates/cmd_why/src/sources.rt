@@ -29,10 +29,6 @@ pub trait ServiceFiles {
     /// returns `NotADirectory`.
     fn folder_fault(&self, folder: &str) -> Option<ErrorKind>
         ensures { IsKnown ((texts self.now).looks folder.now) result };
-
-    /// Returns whether the folder of a service has a file `finish`.
-    fn has_finish(&self, folder: &str) -> bool
-        ensures { IsKnown ((texts self.now).finishes folder.now) result };
 }
 
 /// A local time, as `2026-11-25 01:33:02`.
@@ -75,10 +71,6 @@ pub trait Evidence {
     fn folder_fault(&self, folder: &str) -> Option<ErrorKind>
         ensures { IsKnown ((known self.now).looks folder.now) result };
 
-    /// Returns whether the folder of a service has a file `finish`.
-    fn has_finish(&self, folder: &str) -> bool
-        ensures { IsKnown ((known self.now).finishes folder.now) result };
-
     /// Returns the local time of a label.
     fn local_time(&self, label: &Label) -> LocalTime
         ensures { IsKnown ((known self.now).times label.now) result.bytes };
@@ -106,10 +98,6 @@ impl<'a, F: ServiceFiles, T: LocalTimes> Evidence for ServiceEvidence<'a, F, T> 
 
     fn folder_fault(&self, folder: &str) -> Option<ErrorKind> {
         self.files.folder_fault(folder)
-    }
-
-    fn has_finish(&self, folder: &str) -> bool {
-        self.files.has_finish(folder)
     }
 
     fn local_time(&self, label: &Label) -> LocalTime {

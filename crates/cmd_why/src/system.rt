@@ -54,11 +54,4 @@ impl ServiceFiles for HostRuntime {
             Err(fault) => Some(fault.kind()),
         }
     }
-
-    fn has_finish(&self, folder: &str) -> bool {
-        match service_path(self, folder, "/finish") {
-            Ok(path) => fs::metadata(self, path.as_str()).is_ok(),
-            Err(_) => false,
-        }
-    }
 }

@@ -9,13 +9,14 @@ ghost use Rattle.cmd_why.specs.Why.{found_text, is_unread, why_report, Finds, Fi
 ghost use Rattle.cmd_why.specs.Why.{IsExitOf, IsPicture, IsTraceOf, Reaches, ShowEnds, ShowsEach, ShowsNot};
 ghost use Rattle.cmd_why.specs.Why.{ShowsOne, ShowsUpTo, WhyEnds, WritesNot};
 
+use crate::courses::time_of_course;
 use crate::facts::{Facts, facts_of, leads_to};
-use crate::last_ends::{last_end, read_exit_line};
+use crate::last_ends::last_end;
 use crate::lines::{Absence, Drawing, Found, Picture, Standing, absence_of, found_text};
 use crate::sources::Evidence;
 use crate::timeline::{bar_of, left_end};
 use cmd_base::{DONE, TROUBLE, report, report_device};
-use cmd_svc::{Observer, Services, tell_missing};
+use cmd_svc::{Course, Observer, Services, ask_course, tell_missing};
 use std::alloc::{AllocError, Allocator};
 use std::io::{ErrorKind, Write};
 use sup_trace::{TraceFaultKind, TraceText, read_text};
@@ -40,12 +41,12 @@ pub(crate) enum Reach {
     Unread,
     /// Its status is not a record.
     Bad(RecordFault),
-    /// Its status, and whether it is normally up.
-    Standing(Loaded, bool),
+    /// Its status; whether it is normally up; and what it does that its status does not say.
+    Standing(Loaded, bool, Course),
 }
 
-/// Asks the service in a folder whether it is supervised, then for its status, then for its file `down`. The first of
-/// these that fails ends that.
+/// Asks the service in a folder whether it is supervised, then for its status, then for its file `down`, then for what it
+/// does that its status does not say. The first of these that fails ends that.
 fn reach_service<S: Services, K: Evidence>(services: &mut S, sources: &K, folder: &str) -> Reach
     ensures { Reaches (K.known sources.now) folder.now result (S.calls services.old) (S.calls services.new) }
 {
@@ -56,7 +57,10 @@ fn reach_service<S: Services, K: Evidence>(services: &mut S, sources: &K, folder
         return Reach::Unread;
     };
     match decode_front(front.as_slice()) {
-        Ok(loaded) => Reach::Standing(loaded, !services.has_down(folder)),
+        Ok(loaded) => {
+            let normally_up = !services.has_down(folder);
+            Reach::Standing(loaded, normally_up, ask_course(services, folder, &loaded))
+        }
         Err(fault) => Reach::Bad(fault),
     }
 }
@@ -99,7 +103,7 @@ pub fn read_exit<K: Evidence>(sources: &K, folder: &str) -> Option<Exit>
     ensures { IsExitOf ((K.known sources.now).exits folder.now) result }
 {
     match sources.read_exit(folder) {
-        Ok(line) => read_exit_line(line.as_slice()),
+        Ok(line) => svc_exit::read_exit(line.as_slice()),
         Err(_) => None,
     }
 }
@@ -151,8 +155,9 @@ fn stand<A: Allocator + Clone, K: Evidence, C: TimeSource>(
     folder: &str,
     loaded: Loaded,
     normally_up: bool,
+    course: Course,
 ) -> Result<Standing, AllocError>
-    ensures { IfOk result (FindsStanding (K.known sources.now) timeline folder.now loaded normally_up
+    ensures { IfOk result (FindsStanding (K.known sources.now) timeline folder.now loaded normally_up course
         (C.readings clock.old) (C.readings clock.new)) }
 {
     let content = read_content(alloc, sources, folder)?;
@@ -166,7 +171,8 @@ fn stand<A: Allocator + Clone, K: Evidence, C: TimeSource>(
         normally_up,
         facts,
         last,
-        has_finish: sources.has_finish(folder),
+        course,
+        course_time: sources.local_time(&time_of_course(&course, &status.label)),
         time: sources.local_time(&status.label),
         now,
         drawing,
@@ -189,7 +195,7 @@ fn find<A: Allocator + Clone, K: Evidence, C: TimeSource>(
         Reach::Absent(absence) => Ok(Found::Absent(absence)),
         Reach::Unread => Ok(Found::Unread),
         Reach::Bad(fault) => Ok(Found::Bad(fault)),
-        Reach::Standing(loaded, normally_up) => Ok(Found::Standing(stand(
+        Reach::Standing(loaded, normally_up, course) => Ok(Found::Standing(stand(
             alloc,
             timeline,
             sources,
@@ -197,6 +203,7 @@ fn find<A: Allocator + Clone, K: Evidence, C: TimeSource>(
             folder,
             loaded,
             normally_up,
+            course,
         )?)),
     }
 }
