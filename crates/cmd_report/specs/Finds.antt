@@ -31,13 +31,13 @@ counts_of (Some bytes) = counts_in bytes
 
 -- Counts are read if the status was read, and only then.
 abbrev pub AreCounts : (known : Option (Option (List ℕ))) → Look → Option Counts → Type 0
-AreCounts known (look.Standing loaded normally_up now finishing) counts =
+AreCounts known (look.Standing loaded normally_up now course) counts =
     (read : Option (List ℕ)) × (IsKnown known read × (counts ≡ counts_of read))
 AreCounts known other counts = counts ≡ None
 
 -- The last end is read if the status was read, and only then.
 abbrev pub IsLast : (known : Option (List ℕ)) → Look → Option Exit → Type 0
-IsLast known (look.Standing loaded normally_up now finishing) last = IsExitOf known last
+IsLast known (look.Standing loaded normally_up now course) last = IsExitOf known last
 IsLast known other last = last ≡ None
 
 -- The service in a folder was looked at, and this was found.

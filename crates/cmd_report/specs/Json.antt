@@ -16,10 +16,11 @@ use Rattle.cmd_svc.specs.Line.{is_running, seconds}
 use Rattle.cmd_svc.specs.Svstat.{fault_name}
 use Rattle.cmd_svc.specs.declared.services.Unreached.{Unreached}
 use Rattle.cmd_svc.specs.declared.services.Unreached.TheVariants as unreached
+use Rattle.cmd_svc.specs.declared.course.Course.{Course}
 use Rattle.cmd_svc.specs.declared.look.Look.{Look}
 use Rattle.cmd_svc.specs.declared.look.Look.TheVariants as look
 use Rattle.svc_exit.specs.declared.exit.Exit.{Exit}
-use Rattle.cmd_report.specs.Metrics.{deaths_in, signal_of, starts_in, status_of, unix_second}
+use Rattle.cmd_report.specs.Metrics.{backoff_in, deaths_in, is_finishing, ready_in, signal_of, starts_in, status_of, unix_second}
 use Rattle.cmd_report.specs.declared.counts.Counts.{Counts}
 use Rattle.cmd_report.specs.declared.found.Found.{Found}
 
@@ -108,6 +109,14 @@ unfoldable pub last_member : Option Exit → List Token
 last_member None = null_member (codes "last")
 last_member (Some exit) = key (codes "last") ∷ begin_object ∷ ended_members exit ++ end_object ∷ []
 
+-- when its process said that it is ready, in Unix time, if it did; whether its `finish` runs; and until when its next
+-- start waits, if it does
+unfoldable pub course_members : Course → List Token
+course_members course =
+    known_member (codes "ready") (ready_in course)
+    ++ boolean_member (codes "finishing") (is_finishing course)
+    ++ known_member (codes "backoff") (backoff_in course)
+
 -- since when a service is in its state, in Unix time; its counts; and its last end
 unfoldable pub past_members : Status → Option Counts → Option Exit → List Token
 past_members status counts last =
@@ -128,9 +137,9 @@ look_members (look.Unreached why) counts last = unreached_members why
 look_members look.Unread counts last = string_member (codes "error") (codes "unable to read status")
 look_members (look.Bad cause) counts last =
     string_member (codes "error") (codes "bad status record: " ++ fault_name cause)
-look_members (look.Standing loaded normally_up now finishing) counts last =
+look_members (look.Standing loaded normally_up now course) counts last =
     standing_members loaded normally_up now
-    ++ boolean_member (codes "finishing") finishing
+    ++ course_members course
     ++ past_members (status_in loaded) counts last
 
 -- Lines

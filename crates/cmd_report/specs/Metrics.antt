@@ -2,7 +2,7 @@
 -- (prometheus.io/docs/instrumenting/exposition_formats). Each line has a sample. Those of one metric are together,
 -- after its help.
 use Rattle.std.specs.Prelude.{ℕ, ◌-◌, ◌==◌, Bool, true, false, if◌then◌else◌, List, [], ◌∷◌, ◌++◌, codes, decimal}
-use Rattle.std.specs.Prelude.{flat_map, bytes_eq, Option, Some, None}
+use Rattle.std.specs.Prelude.{flat_map, bytes_eq, is_some, Option, Some, None}
 use Rattle.tai_status.specs.Label.{Tai64n, from_unix}
 use Rattle.tai_status.specs.Record.{flag_byte}
 use Rattle.tai_status.specs.Loading.{status_in}
@@ -12,6 +12,8 @@ use Rattle.tai_status.specs.declared.phase.Phase.TheVariants as phase
 use Rattle.tai_status.specs.declared.loading.Loaded.{Loaded}
 use Rattle.tai_status.specs.declared.loading.Loaded.TheVariants.{Old, New}
 use Rattle.cmd_svc.specs.Line.{is_running, seconds, wants_up}
+use Rattle.cmd_svc.specs.declared.course.Course.{Course}
+use Rattle.cmd_svc.specs.declared.course.Course.TheVariants.{BackingOff, Finishing, Ready}
 use Rattle.cmd_svc.specs.declared.look.Look.{Look}
 use Rattle.cmd_svc.specs.declared.look.Look.TheVariants as look
 use Rattle.svc_exit.specs.declared.ending.Ending.{Ending}
@@ -47,9 +49,26 @@ standing_value sample.WantedUp loaded now = Some (flag_byte (wants_up (status_in
 standing_value sample.Paused loaded now = Some (flag_byte (status_in loaded).paused)
 standing_value other loaded now = None
 
+-- when the process of a service said that it is ready, and until when its next start waits, in Unix time
+abbrev pub ready_in : Course → Option ℕ
+ready_in (Ready label) = Some (unix_second label)
+ready_in other = None
+
+abbrev pub backoff_in : Course → Option ℕ
+backoff_in (BackingOff until) = Some (unix_second until)
+backoff_in other = None
+
+-- whether the `finish` of a service runs
+abbrev pub is_finishing : Course → Bool
+is_finishing Finishing = true
+is_finishing other = false
+
 abbrev pub look_value : Sample → Look → Option ℕ
-look_value sample.Finishing (look.Standing loaded normally_up now finishing) = Some (flag_byte finishing)
-look_value sample (look.Standing loaded normally_up now finishing) = standing_value sample loaded now
+look_value sample.Ready (look.Standing loaded normally_up now course) = Some (flag_byte (is_some (ready_in course)))
+look_value sample.Finishing (look.Standing loaded normally_up now course) = Some (flag_byte (is_finishing course))
+look_value sample.BackingOff (look.Standing loaded normally_up now course) =
+    Some (flag_byte (is_some (backoff_in course)))
+look_value sample (look.Standing loaded normally_up now course) = standing_value sample loaded now
 look_value sample other = None
 
 abbrev pub starts_in : Option Counts → Option ℕ
@@ -108,6 +127,8 @@ metric_name sample.Since = codes "dtools_service_since_timestamp_seconds"
 metric_name (sample.InPhase phase) = codes "dtools_service_phase"
 metric_name sample.WantedUp = codes "dtools_service_wanted_up"
 metric_name sample.Paused = codes "dtools_service_paused"
+metric_name sample.Ready = codes "dtools_service_ready"
+metric_name sample.BackingOff = codes "dtools_service_backing_off"
 metric_name sample.Finishing = codes "dtools_service_finishing"
 metric_name sample.Starts = codes "dtools_service_starts_total"
 metric_name sample.Deaths = codes "dtools_service_deaths_total"
@@ -156,6 +177,12 @@ head_text sample.WantedUp = codes "# HELP dtools_service_wanted_up Whether the s
     ++ codes "# TYPE dtools_service_wanted_up gauge" ++ 10 ∷ []
 head_text sample.Paused = codes "# HELP dtools_service_paused Whether the process of the service is paused." ++ 10 ∷ []
     ++ codes "# TYPE dtools_service_paused gauge" ++ 10 ∷ []
+head_text sample.Ready =
+    codes "# HELP dtools_service_ready Whether the process of the service said that it is ready." ++ 10 ∷ []
+    ++ codes "# TYPE dtools_service_ready gauge" ++ 10 ∷ []
+head_text sample.BackingOff =
+    codes "# HELP dtools_service_backing_off Whether the next start of the service waits." ++ 10 ∷ []
+    ++ codes "# TYPE dtools_service_backing_off gauge" ++ 10 ∷ []
 head_text sample.Finishing = codes "# HELP dtools_service_finishing Whether the finish of the service runs." ++ 10 ∷ []
     ++ codes "# TYPE dtools_service_finishing gauge" ++ 10 ∷ []
 head_text sample.Starts =
@@ -180,7 +207,7 @@ abbrev pub all_samples : List Sample
 all_samples =
     sample.Supervised ∷ sample.Up ∷ sample.Seconds ∷ sample.Since ∷ sample.InPhase phase.Starting
     ∷ sample.InPhase phase.Settling ∷ sample.InPhase phase.Up ∷ sample.InPhase phase.Down ∷ sample.InPhase phase.Resting ∷ sample.InPhase phase.Gone
-    ∷ sample.WantedUp ∷ sample.Paused ∷ sample.Finishing ∷ sample.Starts ∷ sample.Deaths ∷ sample.LastStatus
+    ∷ sample.WantedUp ∷ sample.Paused ∷ sample.Ready ∷ sample.Finishing ∷ sample.BackingOff ∷ sample.Starts ∷ sample.Deaths ∷ sample.LastStatus
     ∷ sample.LastSignal ∷ []
 
 unfoldable pub metrics_text : List Found → List ℕ

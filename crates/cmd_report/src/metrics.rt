@@ -10,7 +10,7 @@ use std::alloc::{AllocError, Allocator};
 use tai_status::{Phase, phase_name};
 
 /// All samples, with those of one metric together.
-const SAMPLES: [Sample; 17] = [
+const SAMPLES: [Sample; 19] = [
     Sample::Supervised,
     Sample::Up,
     Sample::Seconds,
@@ -23,7 +23,9 @@ const SAMPLES: [Sample; 17] = [
     Sample::InPhase(Phase::Gone),
     Sample::WantedUp,
     Sample::Paused,
+    Sample::Ready,
     Sample::Finishing,
+    Sample::BackingOff,
     Sample::Starts,
     Sample::Deaths,
     Sample::LastStatus,

@@ -3,15 +3,17 @@ ghost use Rattle.std.specs.Prelude.{◌≡◌, ◌++◌, codes, IfOk, OnOk};
 ghost use Rattle.json.specs.Lex.{tokens};
 ghost use Rattle.cmd_svc.specs.Line.{is_running};
 ghost use Rattle.cmd_svc.specs.Svstat.{fault_name};
-ghost use Rattle.cmd_report.specs.Json.{Adds, asked_members, boolean_member, ended_members, exiting_member, found_tokens};
+ghost use Rattle.cmd_report.specs.Json.{Adds, asked_members, course_members, boolean_member, ended_members, exiting_member, found_tokens};
 ghost use Rattle.cmd_report.specs.Json.{json_line, known_member, last_member, look_members, null_member, number_member};
 ghost use Rattle.cmd_report.specs.Json.{past_members, phase_member, pid_member, process_members, side_name};
 ghost use Rattle.cmd_report.specs.Json.{standing_members, string_member, unreached_text, unreached_members, want_name};
 
 use crate::counts::Counts;
 use crate::found::Found;
-use crate::samples::{deaths_in, signal_of, starts_in, status_of, unix_second};
-use cmd_svc::{Look, Unreached};
+use crate::samples::{
+    backoff_in, deaths_in, is_finishing, ready_in, signal_of, starts_in, status_of, unix_second,
+};
+use cmd_svc::{Course, Look, Unreached};
 use json::Writer;
 use std::alloc::{AllocError, Allocator};
 use svc_exit::Exit;
@@ -30,7 +32,9 @@ use tai_status::{Label, Loaded, RecordFault, View, Want, phase_name};
 /// - `paused`: whether it is paused;
 /// - `normally`: `down` if its folder has a file `down`, and otherwise `up`;
 /// - `exiting`: whether supervise is to end, or `null` for a record of 18 bytes, which does not say it;
+/// - `ready`: the Unix time at which its process said that it is ready, or `null` if it did not;
 /// - `finishing`: whether its process has ended, and its `finish` runs;
+/// - `backoff`: the Unix time until which its next start waits, or `null` if none waits;
 /// - `since`: the Unix time of its last change of process, in whole seconds;
 /// - `starts`, `deaths`: how often a process of it was started, and died, since svscan began, or `null` if its file
 ///   `counts` does not say it;
@@ -129,13 +133,23 @@ fn add_members<A: Allocator>(writer: &mut Writer<A>, found: &Found) -> Result<()
             loaded,
             normally_up,
             now,
-            finishing,
+            course,
         } => {
             add_standing(writer, loaded, *normally_up, now)?;
-            add_boolean(writer, "finishing", *finishing)?;
+            add_course(writer, course)?;
             add_past(writer, &loaded.view(), found.counts, found.last)
         }
     }
+}
+
+/// Writes what a service does that its status does not say.
+#[tactic(auto, unfolding(crate::specs::Json::course_members))]
+fn add_course<A: Allocator>(writer: &mut Writer<A>, course: &Course) -> Result<(), AllocError>
+    ensures { OnOk result (Adds writer.old writer.new (course_members course.now)) }
+{
+    add_known(writer, "ready", ready_in(course))?;
+    add_boolean(writer, "finishing", is_finishing(course))?;
+    add_known(writer, "backoff", backoff_in(course))
 }
 
 /// Writes since when a service is in its state, its counts, and its last end.

@@ -4,11 +4,11 @@ ghost use Rattle.tai_status.specs.Record.{flag_byte};
 ghost use Rattle.cmd_svc.specs.Line.{is_running, wants_up};
 ghost use Rattle.cmd_report.specs.Metrics.{deaths_in, head_text, is_supervised, look_value, metric_name, phase_value};
 ghost use Rattle.cmd_report.specs.Metrics.{signal_of, signal_of_last, standing_value, starts_in, status_of};
-ghost use Rattle.cmd_report.specs.Metrics.{status_of_last, unix_second, value_in};
+ghost use Rattle.cmd_report.specs.Metrics.{backoff_in, is_finishing, ready_in, status_of_last, unix_second, value_in};
 
 use crate::counts::Counts;
 use crate::found::Found;
-use cmd_svc::Look;
+use cmd_svc::{Course, Look};
 use svc_exit::{Ending, Exit};
 use tai_status::{Label, Loaded, Phase, View, Want, phase_name};
 
@@ -29,8 +29,12 @@ pub enum Sample {
     WantedUp,
     /// Whether its process is paused.
     Paused,
+    /// Whether its process said that it is ready.
+    Ready,
     /// Whether its process has ended, and its `finish` runs.
     Finishing,
+    /// Whether its next start waits, because its processes end too often.
+    BackingOff,
     /// How often it was started since svscan began.
     Starts,
     /// How often it died since svscan began.
@@ -144,14 +148,43 @@ fn look_value(sample: Sample, look: &Look) -> Option<u64>
         Look::Standing {
             loaded,
             now,
-            finishing,
+            course,
             ..
         } => match sample {
-            Sample::Finishing => Some(flag(*finishing)),
+            Sample::Ready => Some(flag(ready_in(course).is_some())),
+            Sample::Finishing => Some(flag(is_finishing(course))),
+            Sample::BackingOff => Some(flag(backoff_in(course).is_some())),
             _ => standing_value(sample, loaded, now),
         },
         Look::Unreached(_) | Look::Unread | Look::Bad(_) => None,
     }
+}
+
+/// Returns when the process of a service said that it is ready, in Unix time, if it did.
+pub(crate) fn ready_in(course: &Course) -> Option<u64>
+    ensures { result ≡ ready_in course.now }
+{
+    match course {
+        Course::Ready(label) => Some(unix_second(*label)),
+        _ => None,
+    }
+}
+
+/// Returns until when the next start of a service waits, in Unix time, if it does.
+pub(crate) fn backoff_in(course: &Course) -> Option<u64>
+    ensures { result ≡ backoff_in course.now }
+{
+    match course {
+        Course::BackingOff(until) => Some(unix_second(*until)),
+        _ => None,
+    }
+}
+
+/// Returns whether the `finish` of a service runs.
+pub(crate) fn is_finishing(course: &Course) -> bool
+    ensures { result ≡ is_finishing course.now }
+{
+    matches!(course, Course::Finishing)
 }
 
 /// Returns the second of Unix time of a label, or 0 if it is before 1970 UTC.
@@ -176,7 +209,8 @@ fn standing_value(sample: Sample, loaded: &Loaded, now: &Label) -> Option<u64>
         Sample::InPhase(phase) => phase_value(phase, loaded),
         Sample::WantedUp => Some(flag(wants_up(view.want))),
         Sample::Paused => Some(flag(view.paused)),
-        Sample::Supervised | Sample::Finishing | Sample::Starts | Sample::Deaths => None,
+        Sample::Supervised | Sample::Starts | Sample::Deaths => None,
+        Sample::Ready | Sample::Finishing | Sample::BackingOff => None,
         Sample::LastStatus | Sample::LastSignal => None,
     }
 }
@@ -220,7 +254,9 @@ pub(crate) fn metric_name(sample: Sample) -> &'static str
         Sample::InPhase(_) => "dtools_service_phase",
         Sample::WantedUp => "dtools_service_wanted_up",
         Sample::Paused => "dtools_service_paused",
+        Sample::Ready => "dtools_service_ready",
         Sample::Finishing => "dtools_service_finishing",
+        Sample::BackingOff => "dtools_service_backing_off",
         Sample::Starts => "dtools_service_starts_total",
         Sample::Deaths => "dtools_service_deaths_total",
         Sample::LastStatus => "dtools_service_last_exit_status",
@@ -263,6 +299,16 @@ pub(crate) fn head_text(sample: Sample) -> &'static str
         Sample::WantedUp => {
             "# HELP dtools_service_wanted_up Whether the service is to be up.
 # TYPE dtools_service_wanted_up gauge
+"
+        }
+        Sample::Ready => {
+            "# HELP dtools_service_ready Whether the process of the service said that it is ready.
+# TYPE dtools_service_ready gauge
+"
+        }
+        Sample::BackingOff => {
+            "# HELP dtools_service_backing_off Whether the next start of the service waits.
+# TYPE dtools_service_backing_off gauge
 "
         }
         Sample::Finishing => {

@@ -54,7 +54,7 @@ pub fn read_moment<S: Services>(services: &mut S, folder: &str, notice: Notice) 
 
 /// Returns the time of a notice if it is about the process of a record: it has its number, and is not earlier than its
 /// start.
-fn about(view: &View, moment: Option<Moment>) -> Option<Label>
+pub fn about(view: &View, moment: Option<Moment>) -> Option<Label>
     ensures { result ≡ about view.now moment }
 {
     match moment {

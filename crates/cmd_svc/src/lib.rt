@@ -21,7 +21,7 @@ mod svstat;
 mod system;
 mod words;
 
-pub use course::{Course, NOTICE_BYTES, Notice, NoticeText, ask_course, read_moment};
+pub use course::{Course, NOTICE_BYTES, Notice, NoticeText, about, ask_course, read_moment};
 pub use escaping::shown;
 pub use form::LineForm;
 pub use line::stat_line;

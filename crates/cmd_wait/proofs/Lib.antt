@@ -3,3 +3,4 @@ pub mod Lasting
 pub mod Found
 pub mod Waiting
 pub mod Sending
+pub mod Saying

@@ -37,7 +37,7 @@ folders-to entries i d within is =
     taken-one folder_in entries i d within
     ∙ ap (λ (one : Entry). entry_folders (take i entries) ++ folder_in one ∷ []) (sym is)
 
-extended-none : (a : Option (List Call)) → Extended a a []
+pub extended-none : (a : Option (List Call)) → Extended a a []
 extended-none None = tt
 extended-none (Some a) = sym (append-nil a)
 
@@ -48,7 +48,7 @@ pub looks-on : (goal : Goal) (services left : List Awaited) (it : Awaited) (afte
     → GoesOn finding
     → LooksAt goal services (left ++ left_at it finding) after a c
 looks-on goal services left it after finding a b c h f on =
-    let look : Look = record { service = it; sighting = f.sighting } in
+    let look : Look = record { service = it; sighting = f.sighting; says = f.says } in
     let P : Look → Type 0 = λ one. GoesOn (finding_of goal one.service.mark one.sighting) in
     let lefts : Look → List Awaited = λ one. left_at one.service (finding_of goal one.service.mark one.sighting) in
     let calls : Look → List Call = λ one. calls_of_look goal one.service.folder one.sighting in

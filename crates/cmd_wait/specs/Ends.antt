@@ -51,6 +51,7 @@ fault_note fault.NotWantedUp = codes ": not wanted up" ++ 10 ∷ []
 -- that the time is over, as it is reported after a service's folder
 abbrev pub over_note : WaitState → List ℕ
 over_note state.Up = codes ": not up in time" ++ 10 ∷ []
+over_note state.Ready = codes ": not ready in time" ++ 10 ∷ []
 over_note state.Down = codes ": not down in time" ++ 10 ∷ []
 over_note state.Unsupervised = codes ": still supervised" ++ 10 ∷ []
 over_note state.Another = codes ": not restarted in time" ++ 10 ∷ []

@@ -1,5 +1,5 @@
 -- What a look at a service finds, from the results of its calls.
-use Rattle.std.specs.Prelude.{◌≡◌, ◌≤◌, ℕ, nat_le, ◌==◌, map, Bool, true, false, not, ◌&&◌, if◌then◌else◌, List, [], ◌∷◌, ◌++◌}
+use Rattle.std.specs.Prelude.{◌≡◌, ◌≤◌, ⊤, ℕ, nat_le, is_some, ◌==◌, map, Bool, true, false, not, ◌&&◌, if◌then◌else◌, List, [], ◌∷◌, ◌++◌}
 use Rattle.std.specs.Prelude.{Option, Some, None}
 use Rattle.std.specs.Prelude.{Result, Ok}
 use Rattle.std.specs.Prelude.{Err}
@@ -11,7 +11,10 @@ use Rattle.tai_status.specs.declared.loading.Loaded.TheVariants.{Old, New}
 use Rattle.tai_status.specs.declared.phase.Phase.{Phase}
 use Rattle.tai_status.specs.declared.phase.Phase.TheVariants as phase
 use Rattle.tai_status.specs.declared.record.RecordFault.{RecordFault}
-use Rattle.cmd_svc.specs.Calls.{Call, Reached, ReadStatus, SoughtAge}
+use Rattle.svc_exit.specs.declared.moment.Moment.{Moment}
+use Rattle.cmd_svc.specs.Calls.{Call, Reached, ReadNotice, ReadStatus, SoughtAge}
+use Rattle.cmd_svc.specs.Course.{IsNoticed, ReadsNotice, about, is_about}
+use Rattle.cmd_svc.specs.declared.course.Notice.TheVariants as notice
 use Rattle.cmd_svc.specs.Line.{is_running}
 use Rattle.cmd_svc.specs.declared.services.Unreached.{Unreached}
 use Rattle.cmd_svc.specs.declared.services.Unreached.TheVariants.{NotRunning, Denied, Unanswered}
@@ -83,32 +86,59 @@ is_another (Some mark) status =
 
 -- What a look finds
 
--- the process whose age is asked for, if the service should be up and its record says that it is
+-- the process whose age is asked for, if the service should be up and its record says that it is, or if it should be
+-- ready and its record names a process
 abbrev pub process_asked : WaitState → Result Loaded RecordFault → Option ℕ
 process_asked state.Up (Ok loaded) = if is_up loaded then Some (status_in loaded).pid else None
 process_asked state.Another (Ok loaded) = if is_up loaded then Some (status_in loaded).pid else None
+process_asked state.Ready (Ok loaded) = if is_running (status_in loaded) then Some (status_in loaded).pid else None
 process_asked other read = None
 
+-- whether it matters that a service is ready
+abbrev pub asks_ready : WaitState → Bool
+asks_ready state.Ready = true
+asks_ready other = false
+
+-- whether the process of a record lives, from its age, and said that it is ready
+abbrev pub is_ready : Status → (age : Option ℕ) → (ready : Option Moment) → Bool
+is_ready status age ready = is_some age && is_some (about status ready)
+
+-- It was read which process said that it is ready, and when, if that matters.
+abbrev pub AsksReady : (asks : Bool) (folder : List ℕ) (ready : Option Moment) (old new : Option (List Call)) → Type 0
+AsksReady false folder ready old new = (ready ≡ None) × (new ≡ old)
+AsksReady true folder ready old new = ReadsNotice folder notice.Ready ready old new
+
 -- The results of the calls of a look. The service did not respond, for this reason; or its status could not be read, and
--- may be missing. Or these are its first bytes, and this is the age of its process, if that was asked for and the process
--- lives.
+-- may be missing. Or these are its first bytes; this is the age of its process, if that was asked for and the process
+-- lives; and this is the text in which svscan says that a process is ready, if that was read, and what it says.
 pub data Sighting : Type 0 where
   Absent : (why : Unreached) → Sighting
   Unread : (is_missing : Bool) → Sighting
-  Shown : (bytes : List ℕ) → (age : Option ℕ) → Sighting
+  Shown : (bytes : List ℕ) → (age : Option ℕ) → (text : Option (List ℕ)) → (ready : Option Moment) → Sighting
+
+-- A text says what was found in it.
+abbrev pub IsSighting : Sighting → Type 0
+IsSighting (Shown bytes age text ready) = IsNoticed text ready
+IsSighting other = ⊤
 
 -- the call that asks for the age of a process, if there is one to ask about
 abbrev pub calls_of_age : (process age : Option ℕ) → List Call
 calls_of_age None age = []
 calls_of_age (Some process) age = SoughtAge process age ∷ []
 
+-- the call that reads whether a process is ready, if that matters
+abbrev pub calls_of_ready : (asks : Bool) (folder : List ℕ) (text : Option (List ℕ)) → List Call
+calls_of_ready false folder text = []
+calls_of_ready true folder text = ReadNotice folder notice.Ready text ∷ []
+
 -- the calls of a look at the service in a folder
 abbrev pub calls_of_look : Goal → (folder : List ℕ) → Sighting → List Call
 calls_of_look goal folder (Absent why) = Reached folder (Some why) ∷ []
 calls_of_look goal folder (Unread is_missing) = Reached folder None ∷ ReadStatus folder None ∷ []
-calls_of_look goal folder (Shown bytes age) =
+calls_of_look goal folder (Shown bytes age text ready) =
     (Reached folder None ∷ ReadStatus folder (Some bytes) ∷ [])
     ++ calls_of_age (process_asked goal.state (loaded_from bytes)) age
+    ++ calls_of_ready (asks_ready goal.state) folder text
 
 abbrev pub reached_if : Bool → Finding
 reached_if reached = if reached then Reached else Waiting
@@ -141,25 +171,29 @@ unread_finding goal is_missing = unread_in goal.state (goal.awaits_supervision &
 
 -- A service is up if its record says so and its process has lived for two seconds. A service whose process ends sooner,
 -- and is restarted each time, is therefore never up. A service is restarted if it is up so, and its process is not the
--- one of its mark.
-abbrev pub record_finding : WaitState → (mark : Option Mark) → Result Loaded RecordFault → (age : Option ℕ) → Finding
-record_finding state.Unsupervised mark read age = Waiting
-record_finding state.Up mark (Ok loaded) age = reached_if (is_up loaded && has_lasted age)
-record_finding state.Up mark (Err cause) age = Failed (fault.Bad cause)
-record_finding state.Down mark (Ok loaded) age = reached_if (is_down loaded)
-record_finding state.Down mark (Err cause) age = Failed (fault.Bad cause)
-record_finding state.Another mark (Ok loaded) age =
+-- one of its mark. A service is ready if its process lives and said so.
+abbrev pub record_finding : WaitState → (mark : Option Mark) → Result Loaded RecordFault → (age : Option ℕ)
+    → (ready : Option Moment) → Finding
+record_finding state.Unsupervised mark read age ready = Waiting
+record_finding state.Up mark (Ok loaded) age ready = reached_if (is_up loaded && has_lasted age)
+record_finding state.Up mark (Err cause) age ready = Failed (fault.Bad cause)
+record_finding state.Down mark (Ok loaded) age ready = reached_if (is_down loaded)
+record_finding state.Down mark (Err cause) age ready = Failed (fault.Bad cause)
+record_finding state.Ready mark (Ok loaded) age ready = reached_if (is_ready (status_in loaded) age ready)
+record_finding state.Ready mark (Err cause) age ready = Failed (fault.Bad cause)
+record_finding state.Another mark (Ok loaded) age ready =
     reached_if (is_up loaded && has_lasted age && is_another mark (status_in loaded))
-record_finding state.Another mark (Err cause) age = Failed (fault.Bad cause)
+record_finding state.Another mark (Err cause) age ready = Failed (fault.Bad cause)
 
 abbrev pub finding_of : Goal → (mark : Option Mark) → Sighting → Finding
 finding_of goal mark (Absent why) = absent_finding goal why
 finding_of goal mark (Unread is_missing) = unread_finding goal is_missing
-finding_of goal mark (Shown bytes age) = record_finding goal.state mark (loaded_from bytes) age
+finding_of goal mark (Shown bytes age text ready) = record_finding goal.state mark (loaded_from bytes) age ready
 
 -- A service was looked at, once, and this was found.
 pub record Finds (goal : Goal) (service : Awaited) (finding : Finding) (old new : Option (List Call)) : Type 0 where
   pub sighting : Sighting
+  pub says : IsSighting sighting
   pub is : finding ≡ finding_of goal service.mark sighting
   pub calls : Extended old new (calls_of_look goal service.folder sighting)
 
@@ -169,7 +203,9 @@ pub record SeesUp (sighting : Sighting) : Type 0 where
   pub bytes : List ℕ
   pub loaded : Loaded
   pub age : ℕ
-  pub saw : sighting ≡ Shown bytes (Some age)
+  pub text : Option (List ℕ)
+  pub ready : Option Moment
+  pub saw : sighting ≡ Shown bytes (Some age) text ready
   pub is : loaded_from bytes ≡ Ok loaded
   pub up : is_up loaded ≡ true
   pub lasted : 200 ≤ age
@@ -193,3 +229,22 @@ AnotherIsSeen =
     (goal : Goal) (mark : Option Mark) (sighting : Sighting) → goal.state ≡ state.Another
     → finding_of goal mark sighting ≡ Reached
     → SeesAnother mark sighting
+
+-- What a look saw of a service that is ready: the process of its record lived then, and a text of svscan says that this
+-- process is ready.
+pub record SeesReady (sighting : Sighting) : Type 0 where
+  pub bytes : List ℕ
+  pub loaded : Loaded
+  pub age : ℕ
+  pub text : Option (List ℕ)
+  pub ready : Moment
+  pub saw : sighting ≡ Shown bytes (Some age) text (Some ready)
+  pub is : loaded_from bytes ≡ Ok loaded
+  pub about : is_about (status_in loaded) ready ≡ true
+
+-- Every look that finds a service ready saw that.
+abbrev pub ReadyIsSaid : Type 0
+ReadyIsSaid =
+    (goal : Goal) (mark : Option Mark) (sighting : Sighting) → goal.state ≡ state.Ready
+    → finding_of goal mark sighting ≡ Reached
+    → SeesReady sighting

@@ -3,7 +3,7 @@ use Rattle.std.specs.Prelude.{◌≡◌, ◌≢◌, ◌⊎◌, ⊤, ℕ, List, [
 use Rattle.tai_status.specs.Extended.{Extended}
 use Rattle.cmd_svc.specs.Calls.{Call}
 use Rattle.cmd_wait.specs.Steps.{Read, Sight, IsOver}
-use Rattle.cmd_wait.specs.Finding.{Sighting, Awaited, service, calls_of_look, finding_of, folders, Finds}
+use Rattle.cmd_wait.specs.Finding.{IsSighting, Sighting, Awaited, service, calls_of_look, finding_of, folders, Finds}
 use Rattle.cmd_wait.specs.Watching.{Watched, watched, Pauses}
 use Rattle.cmd_wait.specs.Words.{Order}
 use Rattle.cmd_wait.specs.declared.finding.Goal.{Goal}
@@ -19,6 +19,7 @@ use Rattle.cmd_wait.specs.declared.rounds.Failure.{Failure}
 pub record Look : Type 0 where
   pub service : Awaited
   pub sighting : Sighting
+  pub says : IsSighting sighting
 
 -- the services that were looked at
 abbrev pub seen : List Look → List Awaited

@@ -1,4 +1,4 @@
--- What the words of `wait` ask for: `wait [-u|-d|-x|-r] [-t SECONDS] SERVICE..`, with the options in either order, and
+-- What the words of `wait` ask for: `wait [-u|-U|-d|-x|-r] [-t SECONDS] SERVICE..`, with the options in either order, and
 -- with or without a `--` after them. Words are lists of bytes.
 use Rattle.std.specs.Prelude.{◌≡◌, ◌≢◌, ℕ, ◌<◌, ◌^◌, if◌then◌else◌, List, [], ◌∷◌, codes, bytes_eq, decimal, Option}
 use Rattle.std.specs.Prelude.{Some}
@@ -6,7 +6,7 @@ use Rattle.std.specs.Prelude.{None, is_some, unwrap_or, Bool, true, false}
 use Rattle.cmd_svc.specs.Words.{is_end, is_option}
 use Rattle.cmd_wait.specs.declared.finding.Goal.{Goal}
 use Rattle.cmd_wait.specs.declared.finding.WaitState.{WaitState}
-use Rattle.cmd_wait.specs.declared.finding.WaitState.TheVariants.{Up, Down, Unsupervised, Another}
+use Rattle.cmd_wait.specs.declared.finding.WaitState.TheVariants.{Up, Ready, Down, Unsupervised, Another}
 
 -- What to wait for, for how many seconds at most, and for which services.
 pub record Order : Type 0 where
@@ -24,6 +24,7 @@ goal state awaits_supervision = record { state = state; awaits_supervision = awa
 abbrev pub state_of : List ℕ → Option WaitState
 state_of word =
     if bytes_eq word (codes "-u") then Some Up
+    else if bytes_eq word (codes "-U") then Some Ready
     else if bytes_eq word (codes "-d") then Some Down
     else if bytes_eq word (codes "-x") then Some Unsupervised
     else if bytes_eq word (codes "-r") then Some Another

@@ -3,10 +3,12 @@ ghost use Rattle.std.specs.Prelude.{◌≡◌};
 ghost use Rattle.tai_status.specs.Extended.{Extended};
 ghost use Rattle.cmd_wait.specs.Finding.{absent_finding, calls_of_age, has_lasted, is_another, is_down, is_up};
 ghost use Rattle.cmd_wait.specs.Finding.{process_asked, reached_if, record_finding, service, unread_finding};
-ghost use Rattle.cmd_wait.specs.Finding.{unsupervised_finding, Finds};
+ghost use Rattle.cmd_wait.specs.Finding.{unsupervised_finding, AsksReady, Finds, asks_ready, is_ready};
+ghost use Rattle.cmd_svc.specs.Line.{is_running};
 
-use cmd_svc::{Services, Unreached};
+use cmd_svc::{Notice, Services, Unreached, about, read_moment};
 use std::io::ErrorKind;
+use svc_exit::Moment;
 use tai_status::{Label, Loaded, Phase, RecordFault, View, decode_front};
 
 /// The age, in hundredths of a second, from which the process of a service counts as up.
@@ -22,6 +24,8 @@ pub enum WaitState {
     Down,
     /// It is no longer supervised.
     Unsupervised,
+    /// It is ready: its process lives, and said so.
+    Ready,
     /// It is up as for `Up`, with another process than the one that the first look saw.
     Another,
 }
@@ -160,7 +164,8 @@ fn has_lasted(age: Option<u128>) -> bool
     }
 }
 
-/// Returns the process whose age is asked for. There is one if the service should be up and its record says that it is.
+/// Returns the process whose age is asked for. There is one if the service should be up and its record says that it is,
+/// and if it should be ready and its record names a process.
 fn process_asked(state: WaitState, read: &Result<Loaded, RecordFault>) -> Option<u32>
     ensures { result ≡ process_asked state read.now }
 {
@@ -168,8 +173,16 @@ fn process_asked(state: WaitState, read: &Result<Loaded, RecordFault>) -> Option
         (WaitState::Up | WaitState::Another, Ok(loaded)) if is_up(loaded) => {
             Some(loaded.view().pid)
         }
+        (WaitState::Ready, Ok(loaded)) if is_running(&loaded.view()) => Some(loaded.view().pid),
         _ => None,
     }
+}
+
+/// Returns whether a record names a process.
+fn is_running(view: &View) -> bool
+    ensures { result ≡ is_running view.now }
+{
+    view.pid >= 1
 }
 
 /// Returns the age of that process, if there is one to ask about and it lives.
@@ -182,6 +195,31 @@ fn age_asked<S: Services>(
         (calls_of_age (process_asked state read.now) result) }
 {
     services.age(process_asked(state, read)?)
+}
+
+/// Returns whether it matters that a service is ready.
+fn asks_ready(state: WaitState) -> bool
+    ensures { result ≡ asks_ready state }
+{
+    matches!(state, WaitState::Ready)
+}
+
+/// Reads which process said that it is ready, and when, if that matters.
+fn ready_asked<S: Services>(services: &mut S, asks: bool, folder: &str) -> Option<Moment>
+    ensures { AsksReady asks folder.now result (S.calls services.old) (S.calls services.new) }
+{
+    if asks {
+        read_moment(services, folder, Notice::Ready)
+    } else {
+        None
+    }
+}
+
+/// Returns whether the process of a record lives, from its age, and said that it is ready.
+fn is_ready(view: &View, age: Option<u128>, ready: Option<Moment>) -> bool
+    ensures { result ≡ is_ready view.now age ready }
+{
+    age.is_some() && about(view, ready).is_some()
 }
 
 /// Returns whether the process of a record is another one than that of a mark. It is if there is no mark.
@@ -199,20 +237,22 @@ fn is_another(mark: Option<Mark>, view: &View) -> bool
 }
 
 /// Returns what is found about a service, from its mark and from what its status file says, and from the age of its
-/// process if that was asked for.
+/// process and its readiness, if these were asked for.
 fn record_finding(
     state: WaitState,
     mark: Option<Mark>,
     read: &Result<Loaded, RecordFault>,
     age: Option<u128>,
+    ready: Option<Moment>,
 ) -> Finding
-    ensures { result ≡ record_finding state mark read.now age }
+    ensures { result ≡ record_finding state mark read.now age ready }
 {
     match (state, read) {
         (WaitState::Unsupervised, _) => Finding::Waiting,
         (_, Err(fault)) => Finding::Failed(WaitFault::Bad(*fault)),
         (WaitState::Up, Ok(loaded)) => reached_if(is_up(loaded) && has_lasted(age)),
         (WaitState::Down, Ok(loaded)) => reached_if(is_down(loaded)),
+        (WaitState::Ready, Ok(loaded)) => reached_if(is_ready(&loaded.view(), age, ready)),
         (WaitState::Another, Ok(loaded)) => {
             reached_if(is_up(loaded) && has_lasted(age) && is_another(mark, &loaded.view()))
         }
@@ -220,7 +260,7 @@ fn record_finding(
 }
 
 /// Looks at a service: whether it is supervised, and then its status. If the service should be up and its record says
-/// that it is, also looks how long its process has lived.
+/// that it is, also looks how long its process has lived. If it should be ready, also reads whether its process said so.
 pub(crate) fn look<S: Services>(services: &mut S, goal: Goal, entry: &Entry<'_>) -> Finding
     ensures { Finds goal (service entry.now.folder.now entry.now.mark) result
         (S.calls services.old) (S.calls services.new) }
@@ -234,5 +274,6 @@ pub(crate) fn look<S: Services>(services: &mut S, goal: Goal, entry: &Entry<'_>)
     };
     let read = decode_front(front.as_slice());
     let age = age_asked(services, goal.state, &read);
-    record_finding(goal.state, entry.mark, &read, age)
+    let ready = ready_asked(services, asks_ready(goal.state), entry.folder);
+    record_finding(goal.state, entry.mark, &read, age, ready)
 }

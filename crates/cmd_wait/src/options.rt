@@ -24,6 +24,7 @@ fn state_of(word: &str) -> Option<WaitState>
 {
     match word {
         "-u" => Some(WaitState::Up),
+        "-U" => Some(WaitState::Ready),
         "-d" => Some(WaitState::Down),
         "-x" => Some(WaitState::Unsupervised),
         "-r" => Some(WaitState::Another),
@@ -97,7 +98,7 @@ fn services_of<'a>(words: &'a [&'a str]) -> &'a [&'a str]
     }
 }
 
-/// Returns what words ask for: `[-u|-d|-x|-r] [-t SECONDS] SERVICE..`, with the options in either order, and with or
+/// Returns what words ask for: `[-u|-U|-d|-x|-r] [-t SECONDS] SERVICE..`, with the options in either order, and with or
 /// without a `--` after them. Returns None if they ask for nothing.
 pub fn read_options<'a>(words: &'a [&'a str]) -> Option<Options<'a>>
     ensures wrong { MatchOption result (AskNothing (texts words.entry.now)) (λ _. ⊤) }

@@ -82,6 +82,7 @@ fn over_note(state: WaitState) -> &'static [u8]
 {
     match state {
         WaitState::Up => b": not up in time\n",
+        WaitState::Ready => b": not ready in time\n",
         WaitState::Down => b": not down in time\n",
         WaitState::Unsupervised => b": still supervised\n",
         WaitState::Another => b": not restarted in time\n",

@@ -91,7 +91,7 @@ fn wait_by_state<R: Wait, S: Services, P: Pace, A: Allocator, E: Write>(
 {
     match options.goal.state {
         WaitState::Another => mark_and_wait(rt, services, pace, options, entries, faults),
-        WaitState::Up | WaitState::Down | WaitState::Unsupervised => {
+        WaitState::Up | WaitState::Ready | WaitState::Down | WaitState::Unsupervised => {
             wait_for(rt, services, pace, b"wait: ", options, entries, faults)
         }
     }
