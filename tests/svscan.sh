@@ -592,6 +592,196 @@ timed_kill_left() {
   is 'nothing was reported' '' "$(cat reported reported2)"
 }
 
+# The process says that it is ready by a newline at the descriptor of notification-fd, and only that process counts.
+ready() {
+  local first second
+  speaker d/web
+  speaker d/own
+  touch d/own/setsid
+  sleeper d/free
+  speaker d/bad
+  echo 3 >d/web/notification-fd
+  echo 7 >d/own/notification-fd
+  echo 12 >d/bad/notification-fd
+  start reported d
+  soon 'up' 10 all_are is_settled d/web d/own d/free d/bad
+  first=$(process d/web)
+  is 'it is not ready before it says so' 'd/web: up (pid N) N seconds' "$(plain_line d/web)"
+  is 'wait -U takes its time' 99 "$(timeout 10 "$program" wait -U -t 1 d/web 2>late; echo $?)"
+  is 'and says for what' 'wait: d/web: not ready in time' "$(cat late)"
+  printf 'no line' >d/web/say
+  sleep 0.5
+  is 'a word without a newline does not count' no "$(exists d/web/supervise/ready)"
+  echo >d/web/say
+  soon 'wait -U ends' 3 timeout 10 "$program" wait -U -t 2 d/web
+  is 'the file names the process' "$first" "$(cut -d' ' -f1 d/web/supervise/ready)"
+  is 'svstat shows it' 'd/web: up (pid N) N seconds, ready N seconds' "$(plain_line d/web)"
+  so 'why says it' why_says 'It has been ready since [0-9]' d/web
+  so 'json has it' json_says '"ready":[0-9]+,"finishing":false,"backoff":null' d/web
+  so 'metrics have it' metrics_say 'dtools_service_ready{service="d/web"} 1' d/web
+  echo >d/own/say
+  soon 'in a session of its own too' 3 timeout 10 "$program" wait -U -t 2 d/own
+  echo >d/bad/say
+  sleep 0.5
+  is 'no file, or a bad one: nobody is ready' 'no no' "$(exists d/free/supervise/ready) $(exists d/bad/supervise/ready)"
+  is 'a bad number is told' 'svscan: bad: notification-fd is no number from 3 to 9: it does not count' "$(sort -u reported)"
+  # A child of the first process keeps the descriptor, and speaks when the second one runs.
+  echo 'child' >d/web/say
+  soon 'the child waits' 3 test -e d/web/child
+  svc -k d/web
+  soon 'another process' 5 is_another d/web "$first"
+  soon 'which listens' 5 listens d/web
+  second=$(process d/web)
+  touch d/web/speak
+  soon 'the child spoke' 3 test -e d/web/spoke
+  sleep 0.5
+  is 'the word of the process before does not count' no "$(exists d/web/supervise/ready)"
+  echo >d/web/say
+  soon 'its own does' 3 test -e d/web/supervise/ready
+  is 'with its number' "$second" "$(cut -d' ' -f1 d/web/supervise/ready)"
+  svc -d d/web
+  soon 'down' 5 is_put_down d/web
+  is 'the file is gone with the process' no "$(exists d/web/supervise/ready)"
+}
+
+# speaker FOLDER: a service that copies to its descriptor what comes to the FIFO say; a line `child` makes a child speak later
+speaker() {
+  service "$1" <<'END'
+fd=$(cat notification-fd)
+[ "$fd" -le 9 ] || fd=1
+rm -f say
+mkfifo say
+exec 8<>say
+echo $$ >listens
+exec python3 - "$fd" <<'CODE'
+import os, sys, time
+fd, say = int(sys.argv[1]), os.open("say", os.O_RDWR)
+while True:
+    word = os.read(say, 100)
+    if word == b"child\n":
+        if os.fork() == 0:
+            os.setsid()
+            open("child", "w").close()
+            while not os.path.exists("speak"): time.sleep(0.05)
+            os.write(fd, b"\n")
+            open("spoke", "w").close()
+            os._exit(0)
+    else:
+        os.write(fd, word)
+CODE
+END
+}
+listens() { [ "$(cat "$1/listens")" = "$(process "$1")" ]; }
+plain_line() { timeout 10 "$program" svstat "$1" | sed -E 's/[0-9]+ seconds/N seconds/g; s/pid [0-9]+/pid N/'; }
+json_says() { timeout 10 "$program" svstat --json "$2" | grep -qE "$1"; }
+metrics_say() { timeout 10 "$program" svstat --metrics "$2" | grep -qxF "$1"; }
+
+# svscan is killed: what was said before stays, and what is said while there is no svscan is heard by the next one.
+ready_left() {
+  local name
+  for name in before between after; do
+    speaker d/$name
+    echo 4 >d/$name/notification-fd
+  done
+  start_session reported d
+  soon 'up' 10 all_are is_settled d/before d/between d/after
+  echo >d/before/say
+  soon 'one is ready' 3 test -e d/before/supervise/ready
+  cp d/before/supervise/ready said
+  kill -KILL "$svscan"
+  soon 'svscan is dead' 3 is_gone "$svscan"
+  echo >d/between/say
+  sleep 0.5
+  start_session reported2 d
+  soon 'served' 10 all_are is_served d/before d/between d/after
+  soon 'its word waited' 5 test -e d/between/supervise/ready
+  is 'of the process that said it' "$(process d/between)" "$(cut -d' ' -f1 d/between/supervise/ready)"
+  is 'the first one is ready since then' "$(cat said)" "$(cat d/before/supervise/ready)"
+  is 'svstat shows it' 'd/before: up (pid N) N seconds, ready N seconds' "$(plain_line d/before)"
+  is 'the third is not ready' no "$(exists d/after/supervise/ready)"
+  echo >d/after/say
+  soon 'it says so later' 5 timeout 10 "$program" wait -U -t 2 d/after
+  svc -d d/before d/between d/after
+  soon 'down' 5 all_are is_put_down d/before d/between d/after
+  is 'all files are gone' 'no no no' \
+    "$(exists d/before/supervise/ready) $(exists d/between/supervise/ready) $(exists d/after/supervise/ready)"
+  is 'nothing was reported' '' "$(cat reported reported2)"
+}
+
+# After five ends within a minute that nobody asked for, the next start waits.
+backs_off() {
+  local before
+  for name in web free bad; do falls d/$name; done
+  echo 20 >d/web/backoff
+  echo 3601 >d/bad/backoff
+  start reported d
+  soon 'five ends' 12 test -s d/web/supervise/backoff
+  is 'after five starts' 5 "$(count d/web/starts)"
+  is 'the file names the last process' "$(tail -n 1 d/web/starts)" "$(cut -d' ' -f1 d/web/supervise/backoff)"
+  so 'svstat shows it' holds_line 'd/web: up (pid N) N seconds, backoff N seconds' d/web
+  so 'why says it, and until when' why_says 'Its processes end too often: the next start waits until [0-9]' d/web
+  so 'json has it' json_says '"ready":null,"finishing":false,"backoff":[0-9]+' d/web
+  so 'metrics have it' metrics_say 'dtools_service_backing_off{service="d/web"} 1' d/web
+  sleep 3
+  is 'it waits' 5 "$(count d/web/starts)"
+  svc -t d/web
+  sleep 1
+  is 'a signal does not end that' 5 "$(count d/web/starts)"
+  so 'without the file it goes on' has_lines 7 d/free/starts
+  so 'with a bad one too' has_lines 7 d/bad/starts
+  is 'which is told' 'svscan: bad: backoff is no number of seconds from 1 to 3600: it does not count' "$(sort -u reported)"
+  svc -u d/web
+  soon 'u ends it' 4 has_lines 6 d/web/starts
+  is 'the file is gone' no "$(exists d/web/supervise/backoff)"
+  soon 'the sixth end is one too many again' 5 test -s d/web/supervise/backoff
+  svc -d d/web
+  soon 'd ends it, and starts nothing' 4 is_put_down d/web
+  sleep 2
+  is 'six starts' 6 "$(count d/web/starts)"
+  # An end that somebody asked for counts neither as one of the five nor for the wait.
+  sleeper d/asked
+  echo 20 >d/asked/backoff
+  soon 'asked: up' 10 is_settled d/asked
+  for _ in 1 2 3 4 5 6; do
+    before=$(process d/asked)
+    svc -k d/asked
+    soon 'asked: another' 4 is_another d/asked "$before"
+  done
+  is 'asked: it never waits' no "$(exists d/asked/supervise/backoff)"
+}
+
+# falls FOLDER: a service that notes each start, and ends at once
+falls() {
+  service "$1" <<'END'
+echo $$ >>starts
+exit 1
+END
+}
+holds_line() { [ "$(plain_line "$2")" = "$1" ]; }
+
+# The wait ends by itself at its time. A svscan that is killed meanwhile leaves it, and the next one starts anew.
+backs_off_left() {
+  falls d/web
+  falls d/other
+  echo 3 >d/web/backoff
+  echo 60 >d/other/backoff
+  start_session reported d
+  soon 'both wait' 12 both_wait
+  local from=$EPOCHSECONDS
+  soon 'the first goes on' 8 has_lines 6 d/web/starts
+  lies 'after its time' 1 6 $((EPOCHSECONDS - from))
+  kill -KILL "$svscan"
+  soon 'svscan is dead' 3 is_gone "$svscan"
+  is 'the other one waited' 5 "$(count d/other/starts)"
+  start_session reported2 d
+  soon 'the next svscan starts it at once' 5 has_lines 6 d/other/starts
+  is 'without the file of the wait' no "$(exists d/other/supervise/backoff)"
+  soon 'and counts anew' 12 test -s d/other/supervise/backoff
+  is 'from nothing' 10 "$(count d/other/starts)"
+  is 'nothing was reported' '' "$(cat reported reported2)"
+}
+both_wait() { [ -s d/web/supervise/backoff ] && [ -s d/other/supervise/backoff ]; }
+
 # svscan is killed while a finish runs: the next one starts nothing until it has ended, and ends it in its time.
 killed_finish() {
   local name first
@@ -2545,7 +2735,7 @@ play_all() {
   done
 }
 
-scenarios=(life modes_kept delegated exits endings finishes bounded_finish timed_kill timed_kill_left killed_finish no_run links stubborn killed_service killed_svscan killed_early unnamed starved unwritten new_boot other_user earlier_record elsewhere changes twice names silent
+scenarios=(life modes_kept delegated exits endings finishes bounded_finish timed_kill timed_kill_left ready ready_left backs_off backs_off_left killed_finish no_run links stubborn killed_service killed_svscan killed_early unnamed starved unwritten new_boot other_user earlier_record elsewhere changes twice names silent
   connections no_supervise unheard rounds untaken own refused last_words upgraded unread ordered first_process two_services child begins_anew shortage
   descriptors_reported unchanged resting full_disk full_put_down placeless held_locks held_pair many_bytes raised_limit
   odd_environment unreaped bounded_end no_folder folder_away apart)

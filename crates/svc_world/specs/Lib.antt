@@ -1,6 +1,7 @@
 pub mod Access
 pub mod Calls
 pub mod Watch
+pub mod Deaths
 pub mod Commands
 pub mod Shell
 pub mod Stats

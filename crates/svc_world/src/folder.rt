@@ -633,7 +633,8 @@ impl ServiceFolder {
         self.replace_or_remove("supervise/backoff", "supervise/backoff.new", line)
     }
 
-    /// Replaces a file as a whole by this line, or removes it if the line is empty.
+    /// Replaces a file as a whole by this line, or removes it if the line is empty. Who has access to the status record
+    /// has it to this file too.
     fn replace_or_remove(&self, file: &str, new: &str, line: &[u8]) -> io::Result<()>
         requires file { length file.now ≤ 23 }
         requires new { length new.now ≤ 23 }
@@ -641,7 +642,7 @@ impl ServiceFolder {
         if line.is_empty() {
             remove(&self.files, self.path(file).as_str())
         } else {
-            self.replace(file, new, line)
+            self.replace_with(file, new, line, self.status)
         }
     }
 

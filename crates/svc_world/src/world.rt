@@ -154,21 +154,32 @@ impl<C: ChildSystem + Drop> ChildWorld<C> {
     ghost use Rattle.svc_world.specs.declared.paper.Paper.TheVariants as paper;
     ghost use Rattle.svc_left.specs.Leftover.{HasNumber};
     ghost use Rattle.svc_world.specs.Owed.{first_owed};
-    ghost use Rattle.svc_world.specs.Watch.{Adopts, AsksDeath, AsksLinger, BeginsFinish, Bounds, CountsRecord, EndsFinish};
-    ghost use Rattle.svc_world.specs.Watch.{FinishesBy, FinishesIf, Intends, IntendsFinish, KeepsOrReports, KillsIfLate};
-    ghost use Rattle.svc_world.specs.Watch.{KnowsDeath, LearnsDeath, ReadsTick, RecordsAt, Says, SeeksEnd, SeeksFinish};
-    ghost use Rattle.svc_world.specs.Watch.{SpawnsFinishIf, Waits, with_end, with_exit, with_finish};
+    ghost use Rattle.svc_world.specs.Watch.{Adopts, Bounds, CountsRecord};
+    ghost use Rattle.svc_world.specs.Deaths.{AsksDeath, AsksLinger, BeginsFinish, EndsFinish};
+    ghost use Rattle.svc_world.specs.Watch.{Intends, KillsIfLate};
+    ghost use Rattle.svc_world.specs.Deaths.{FinishesBy, FinishesIf, IntendsFinish, KeepsOrReports};
+    ghost use Rattle.svc_world.specs.Watch.{ReadsTick, RecordsAt, Says};
+    ghost use Rattle.svc_world.specs.Deaths.{KnowsDeath, LearnsDeath, SeeksEnd, SeeksFinish};
+    ghost use Rattle.svc_world.specs.Watch.{Waits};
+    ghost use Rattle.svc_world.specs.Deaths.{SpawnsFinishIf, with_end, with_exit, with_finish};
     ghost use Rattle.svc_left.specs.Place.{finish_in};
     ghost use Rattle.svc_left.specs.Leftover.{IsAwaited};
     ghost use Rattle.std.specs.Prelude.{option_copied, true};
-    ghost use Rattle.svc_world.specs.Watch.{RecordsChild, RecordsProcess, RecordsStart, ReportsDeath, Runs, SaysChange};
-    ghost use Rattle.svc_world.specs.Watch.{SeeksDeath, SeeksLeftover, SeeksTick, SpawnsIf, StartsBy, TakesUp, Vacates};
-    ghost use Rattle.svc_world.specs.Watch.{Writes, WritesAgain, WritesAs, WritesIf, WritesIfSome, answered, begun, bereft};
+    ghost use Rattle.svc_world.specs.Watch.{RecordsChild, RecordsProcess, RecordsStart, Runs, SaysChange};
+    ghost use Rattle.svc_world.specs.Deaths.{ReportsDeath};
+    ghost use Rattle.svc_world.specs.Watch.{SeeksLeftover, SeeksTick, SpawnsIf, StartsBy, TakesUp, Vacates};
+    ghost use Rattle.svc_world.specs.Deaths.{SeeksDeath};
+    ghost use Rattle.svc_world.specs.Watch.{Writes, WritesAgain, WritesAs, WritesIf, WritesIfSome, answered, begun};
+    ghost use Rattle.svc_world.specs.Deaths.{bereft};
     ghost use Rattle.svc_world.specs.Watch.{content_of, with_place, with_start, with_status, with_want};
-    ghost use Rattle.svc_world.specs.Watch.{AsksBackoff, AsksReady, CountsEnd, CountsIfSome, EndsHold, ForgetsReady};
-    ghost use Rattle.svc_world.specs.Watch.{Holds, HoldsOn, KeepsUntil, HoldsOrReports, LooksHeld, LooksReady, NotesReady};
-    ghost use Rattle.svc_world.specs.Watch.{PassesDeath, ReadsClock, SeeksBackoff, SeeksReady, WritesEach, notice, papers};
-    ghost use Rattle.svc_world.specs.Watch.{with_hold, with_no_backoff, with_ready, with_unasked};
+    ghost use Rattle.svc_world.specs.Watch.{AsksReady};
+    ghost use Rattle.svc_world.specs.Deaths.{AsksBackoff, CountsEnd, CountsIfSome, EndsHold, ForgetsReady};
+    ghost use Rattle.svc_world.specs.Watch.{LooksReady, NotesReady};
+    ghost use Rattle.svc_world.specs.Deaths.{Holds, HoldsOn, KeepsUntil, HoldsOrReports, LooksHeld};
+    ghost use Rattle.svc_world.specs.Watch.{ReadsClock, SeeksReady, WritesEach, notice, papers};
+    ghost use Rattle.svc_world.specs.Deaths.{PassesDeath, SeeksBackoff};
+    ghost use Rattle.svc_world.specs.Watch.{with_ready};
+    ghost use Rattle.svc_world.specs.Deaths.{with_hold, with_no_backoff, with_unasked};
 
     /// Makes the world over these children, for an svscan of this session. `place` is the place of the service as it is
     /// on disk. If `is_open`, it is the intent of an earlier svscan, and something of that start may be left over.
@@ -959,7 +970,8 @@ impl<C: ChildSystem + Drop> World for ChildWorld<C> {
     ghost use Rattle.std.specs.Prelude.{◌≡◌, ◌≢◌, ◌<◌, None, IfSome};
     ghost use Rattle.svc_house.specs.Calls.{IsAnswer};
     ghost use Rattle.svc_world.specs.declared.begin.LastChild.TheVariants.{Alive};
-    ghost use Rattle.svc_world.specs.Watch.{Mends, PollsDeath, ReadsClock, Records, SeeksKillTime, SignalsChild, Starts};
+    ghost use Rattle.svc_world.specs.Watch.{Mends, ReadsClock, Records, SeeksKillTime, SignalsChild, Starts};
+    ghost use Rattle.svc_world.specs.Deaths.{PollsDeath};
     ghost use Rattle.svc_world.specs.Watch.{Watch};
 
     /// Sends a signal to the last child if its death is not known. Looks for its death just before, and sends nothing
