@@ -595,11 +595,11 @@ timed_kill_left() {
 # The process says that it is ready by a newline at the descriptor of notification-fd, and only that process counts.
 ready() {
   local first second
-  speaker d/web
-  speaker d/own
+  announcer d/web
+  announcer d/own
   touch d/own/setsid
   sleeper d/free
-  speaker d/bad
+  announcer d/bad
   echo 3 >d/web/notification-fd
   echo 7 >d/own/notification-fd
   echo 12 >d/bad/notification-fd
@@ -644,8 +644,8 @@ ready() {
   is 'the file is gone with the process' no "$(exists d/web/supervise/ready)"
 }
 
-# speaker FOLDER: a service that copies to its descriptor what comes to the FIFO say; a line `child` makes a child speak later
-speaker() {
+# announcer FOLDER: a service that copies to its descriptor what comes to the FIFO say; a line `child` makes a child speak later
+announcer() {
   service "$1" <<'END'
 fd=$(cat notification-fd)
 [ "$fd" -le 9 ] || fd=1
@@ -680,7 +680,7 @@ metrics_say() { timeout 10 "$program" svstat --metrics "$2" | grep -qxF "$1"; }
 ready_left() {
   local name
   for name in before between after; do
-    speaker d/$name
+    announcer d/$name
     echo 4 >d/$name/notification-fd
   done
   start_session reported d
