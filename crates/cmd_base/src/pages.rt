@@ -16,9 +16,7 @@ pub fn page_of(command: Command) -> &'static [u8]
         Command::Svc => {
             b"dtools svc [-W] [-udopchaitkx12q] SERVICE..; u up, d down, o once, x exit, and signals\n"
         }
-        Command::Svstat => {
-            b"dtools svstat [-l] [--json | --metrics | --html] [SERVICE..]\n"
-        }
+        Command::Svstat => { b"dtools svstat [-l] [--json | --metrics | --html] [SERVICE..]\n" }
         Command::Svok => b"dtools svok SERVICE\n",
         Command::Wait => {
             b"dtools wait [-u|-U|-d|-x|-r] [-t SECONDS] SERVICE..; u up, U ready, d down, x no longer supervised, r restarted\n"
