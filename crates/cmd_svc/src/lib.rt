@@ -22,7 +22,7 @@ mod words;
 
 pub use escaping::shown;
 pub use form::LineForm;
-pub use line::stat_line;
+pub use line::{is_running, stat_line};
 pub use look::{Look, fault_name, look_at};
 pub use missing::tell_missing;
 pub use observer::Observer;
