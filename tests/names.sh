@@ -153,6 +153,11 @@ logger="$room/all/web/log: up (pid N) N seconds"
 ended 'with loggers' 0 "${rows/with space/$logger
 with space}
 $room/all/zlink/log: up (pid N) N seconds" '' svstat -l
+is 'json of all' 7 "$(cd work && "$program" svstat --json | grep -c '"path"')"
+is 'json of all with loggers' 9 "$(cd work && "$program" svstat -l --json | grep -c '"path"')"
+is 'metrics of all' 7 "$(cd work && "$program" svstat --metrics | grep -c '^dtools_service_supervised')"
+is 'page of all' 7 "$(cd work && "$program" svstat --html | grep -c '^<tr><th scope="row">')"
+is 'page of all with loggers' 9 "$(cd work && "$program" svstat -l --html | grep -c '^<tr><th scope="row">')"
 ended 'with another word: no list' 0 "-l: supervise not running
 web: up (pid N) N seconds" "svstat: -l: $none" svstat -l web
 ended 'another command: no list' 100 '' '' svok

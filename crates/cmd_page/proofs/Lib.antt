@@ -1,2 +1,2 @@
-pub mod Reads
-pub mod Rows
+pub mod Grown
+pub mod Written

@@ -8,8 +8,8 @@ use Rattle.hex.specs.Hex.{encode_lower}
 abbrev pub is_between : (first last char : ℕ) → Bool
 is_between first last char = nat_le first char && nat_le char last
 
--- A character that is not seen, and can change how others are seen: a control character, or one that turns the direction
--- of text (U+202A to U+202E, U+2066 to U+2069).
+-- A character that is not seen, and can change how others are seen: a control character, or one that turns the
+-- direction of text (U+202A to U+202E, U+2066 to U+2069).
 abbrev pub is_hidden : ℕ → Bool
 is_hidden char =
     nat_lt char 32 || (is_between 127 159 char || (is_between 8234 8238 char || is_between 8294 8297 char))

@@ -1,5 +1,5 @@
 -- The page about services: its head, one row for each service, and its end.
-use Rattle.std.specs.Prelude.{◌≡◌, ℕ, ◌-◌, ◌/◌, nat_lt, ◌&&◌, not, Bool, false, if◌then◌else◌, List, [], ◌∷◌, ◌++◌, codes}
+use Rattle.std.specs.Prelude.{ℕ, ◌-◌, ◌/◌, nat_lt, not, Bool, false, if◌then◌else◌, List, [], ◌∷◌, ◌++◌, codes}
 use Rattle.std.specs.Prelude.{decimal, flat_map, Option, Some, None}
 use Rattle.tai_status.specs.Label.{Tai64n}
 use Rattle.tai_status.specs.Record.{Status}
@@ -117,7 +117,7 @@ last_text now (Some exit) =
 -- Rows
 
 -- the cells after the name of a service
-abbrev pub cells_text : (now : Tai64n) → Row → List ℕ
+unfoldable pub cells_text : (now : Tai64n) → Row → List ℕ
 cells_text now row =
     cell (state_class (status_of row.found.look)) (state_word row.found.look)
     ++ cell (codes "more") (escaped row.since)
@@ -142,17 +142,20 @@ head_text =
     codes "<html lang=\"en\"><head><meta charset=\"utf-8\"><title>Services</title>" ++ 10 ∷
     codes "<meta name=\"viewport\" content=\"width=device-width, initial-scale=1\">" ++ 10 ∷
     codes "<meta http-equiv=\"refresh\" content=\"10\">" ++ 10 ∷
-    codes "<meta http-equiv=\"Content-Security-Policy\" content=\"default-src 'none'; style-src 'unsafe-inline'\">" ++ 10 ∷
+    codes "<meta http-equiv=\"Content-Security-Policy\"" ++ 10 ∷
+    codes "content=\"default-src 'none'; style-src 'unsafe-inline'\">" ++ 10 ∷
     codes "<style>" ++ 10 ∷
     codes ":root{color-scheme:light dark;--up:#2e7d32;--warn:#9a6700;--died:#c62828}" ++ 10 ∷
     codes "@media(prefers-color-scheme:dark){:root{--up:#66bb6a;--warn:#d29922;--died:#ef5350}}" ++ 10 ∷
     codes "body{font:15px/1.4 system-ui,sans-serif;margin:1rem}" ++ 10 ∷
     codes "table{border-collapse:collapse;width:100%}" ++ 10 ∷
-    codes "th,td{text-align:left;padding:.3rem .5rem;border-top:1px solid #8884;overflow-wrap:anywhere}" ++ 10 ∷
-    codes "td.up{color:var(--up)}td.warn{color:var(--warn)}" ++ 10 ∷
+    codes "th,td{text-align:left;padding:.3rem .5rem;border-top:1px solid #8884}" ++ 10 ∷
+    codes "tbody th{min-width:5rem;overflow-wrap:anywhere}" ++ 10 ∷
+    codes "td.more{white-space:nowrap}td.up{color:var(--up)}td.warn{color:var(--warn)}" ++ 10 ∷
     codes "svg{display:block;width:20rem;height:1rem;background:#8882}" ++ 10 ∷
-    codes "rect.up{fill:var(--up)}rect.down{fill:#8888}rect.warn{fill:var(--warn)}rect.dark{fill:none}rect.died{fill:var(--died)}" ++ 10 ∷
-    codes "@media(max-width:60rem){.more{display:none}svg{width:9rem}}" ++ 10 ∷
+    codes "rect.up{fill:var(--up)}rect.down{fill:#8888}rect.warn{fill:var(--warn)}" ++ 10 ∷
+    codes "rect.dark{fill:none}rect.died{fill:var(--died)}" ++ 10 ∷
+    codes "@media(max-width:60rem){.more{display:none}svg{width:8rem}}" ++ 10 ∷
     codes "</style></head><body>" ++ 10 ∷
     codes "<p>Services at "
 
@@ -161,8 +164,10 @@ unfoldable pub heading_text : List ℕ
 heading_text =
     codes ". The last hour of each: green is up, gray is down, yellow is paused or about a start." ++ 10 ∷
     codes "Red is the end of a process that nobody asked to end.</p>" ++ 10 ∷
-    codes "<table><thead><tr><th>Service</th><th>State</th><th class=\"more\">Since</th><th class=\"more\">Process</th>" ++ 10 ∷
-    codes "<th class=\"more\">Wanted</th><th class=\"more\">Restarts in the last hour</th><th class=\"more\">Last end</th>" ++ 10 ∷
+    codes "<table><thead><tr><th>Service</th><th>State</th><th class=\"more\">Since</th>" ++ 10 ∷
+    codes "<th class=\"more\">Process</th>" ++ 10 ∷
+    codes "<th class=\"more\">Wanted</th><th class=\"more\">Restarts in the last hour</th>" ++ 10 ∷
+    codes "<th class=\"more\">Last end</th>" ++ 10 ∷
     codes "<th>Last hour</th></tr></thead><tbody>" ++ 10 ∷
     []
 

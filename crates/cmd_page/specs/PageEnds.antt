@@ -45,24 +45,29 @@ pub record AddsRows (files : Files) (now : Tai64n) (words : List (List ℕ)) (ol
   pub are : AllByRecursion (IsRow files.known) rows
   pub text : after ≡ before ++ flat_map (row_text now) rows
 
--- Each word was looked at, in order, after the clock was read. This is the page about what was found.
+-- The clock was read.
+pub record ReadsClock (old new : Sight) (now : Tai64n) : Type 0 where
+  pub unasked : new.calls ≡ old.calls
+  pub read : Extended old.readings new.readings (now ∷ [])
+
+-- The clock was read, and then each word was looked at, in order. This is the page about what was found.
 pub record Draws (files : Files) (words : List (List ℕ)) (old new : Sight) (page : List ℕ) : Type 0 where
   pub now : Tai64n
-  pub readings : Option (List Tai64n)
+  pub middle : Sight
   pub time : List ℕ
   pub rows : List Row
-  pub read : Extended old.readings readings (now ∷ [])
+  pub read : ReadsClock old middle now
   pub time_is : IsKnown (files.known.times now) time
-  pub finds : FindsWords files words (founds_of rows) (sight old.calls readings) new
+  pub finds : FindsWords files words (founds_of rows) middle new
   pub are : AllByRecursion (IsRow files.known) rows
   pub text : page ≡ page_text time now rows
 
 -- There was no memory: the clock was read, and some words at the front were looked at.
 pub record DrawsNone (files : Files) (words : List (List ℕ)) (old new : Sight) : Type 0 where
   pub now : Tai64n
-  pub readings : Option (List Tai64n)
-  pub read : Extended old.readings readings (now ∷ [])
-  pub finds : FindsFront files words (sight old.calls readings) new
+  pub middle : Sight
+  pub read : ReadsClock old middle now
+  pub finds : FindsFront files words middle new
 
 -- The page was written. Then it is reported for each folder that does not exist why, and nothing else is reported.
 pub record WritesPage (files : Files) (words : List (List ℕ)) (status : ℕ) (old new : Scene)

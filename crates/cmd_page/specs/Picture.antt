@@ -1,5 +1,6 @@
 -- The picture of the last hour of a service, from its trace: rectangles on an axis of 3,600 units, one for each second.
--- The axis is the same for all services. Its right end is now. Moments are in nanoseconds since the beginning of labels.
+-- The axis is the same for all services. Its right end is now. Moments are in nanoseconds since the beginning of
+-- labels.
 use Rattle.std.specs.Prelude.{ℕ, ◌+◌, ◌-◌, ◌*◌, ◌/◌, ◌^◌, min, nat_le, nat_lt, ◌==◌, ◌&&◌, ◌||◌, not, Bool, true, false}
 use Rattle.std.specs.Prelude.{if◌then◌else◌, List, [], ◌∷◌, ◌++◌, codes, decimal, flat_map}
 use Rattle.tai_status.specs.Label.{Tai64n}
@@ -20,10 +21,11 @@ abbrev pub place : (now moment : ℕ) → ℕ
 place now moment = 3600 - min 3600 ((now - moment) / 10 ^ 9)
 
 -- a rectangle of a class, from one place to another
+unfoldable pub extent : (from to : ℕ) → List ℕ
+extent from to = codes "\" x=\"" ++ decimal from ++ codes "\" width=\"" ++ decimal (to - from)
+
 unfoldable pub rectangle : (class : List ℕ) (from to : ℕ) → List ℕ
-rectangle class from to =
-    codes "<rect class=\"" ++ class ++ codes "\" x=\"" ++ decimal from ++ codes "\" width=\"" ++ decimal (to - from)
-    ++ codes "\" height=\"1\"/>"
+rectangle class from to = codes "<rect class=\"" ++ class ++ extent from to ++ codes "\" height=\"1\"/>"
 
 -- States
 
@@ -71,15 +73,16 @@ has_more content = not (content.folded == 0)
 -- The picture
 
 -- the rectangles of a trace: its stretches, and over them the marks
-abbrev pub rectangles : (now : Tai64n) (leads : Bool) → Content → List ℕ
+unfoldable pub rectangles : (now : Tai64n) (leads : Bool) → Content → List ℕ
 rectangles now leads content =
     flat_map (stretch_text (nanos now)) (stretches_of content leads (nanos (left_end content now)) (nanos now))
     ++ deaths (nanos now) (has_more content) content.entries
 
+unfoldable pub opening : List ℕ
+opening = codes "<svg viewBox=\"0 0 3600 1\" preserveAspectRatio=\"none\" role=\"img\" aria-label=\"the last hour\">"
+
 unfoldable pub picture : (now : Tai64n) (leads : Bool) → Content → List ℕ
-picture now leads content =
-    codes "<svg viewBox=\"0 0 3600 1\" preserveAspectRatio=\"none\" role=\"img\" aria-label=\"the last hour\">"
-    ++ rectangles now leads content ++ codes "</svg>"
+picture now leads content = opening ++ rectangles now leads content ++ codes "</svg>"
 
 -- Restarts
 
@@ -111,8 +114,8 @@ restarts now ran (event ∷ events) =
 abbrev pub ran_before : Content → Bool
 ran_before content = nat_le 1 content.base.status.pid || has_more content
 
--- Whether the entries have all restarts of the last hour: nothing came before them, or the last change of process before
--- them is older.
+-- Whether the entries have all restarts of the last hour: nothing came before them, or the last change of process
+-- before them is older.
 abbrev pub reaches_back : (now : Tai64n) → Content → Bool
 reaches_back now content =
     (content.folded == 0) || nat_lt (nanos content.base.status.label + hour) (nanos now)

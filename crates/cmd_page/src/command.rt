@@ -11,8 +11,8 @@ use std::alloc::Allocator;
 use std::io::Write;
 use tai_status::{Output, TimeSource};
 
-/// The command `svstat`. If its first word is `--html`, it works as [`run_page`] over the words after that one. Otherwise
-/// it works as [`run_report`], over all words.
+/// The command `svstat`. If its first word is `--html`, it works as [`run_page`], over the words after that one.
+/// Otherwise it works as [`run_report`], over all words.
 pub fn run_view<S, F, K, A, W, E, C>(
     alloc: A,
     observer: &mut Observer<S, C>,

@@ -3,7 +3,7 @@ ghost use Rattle.std.specs.Prelude.{◌≡◌, IfOk, OnErr, OnOk};
 ghost use Rattle.cmd_svc.specs.Words.{texts};
 ghost use Rattle.cmd_report.specs.Finds.{report_files, FindsFront};
 ghost use Rattle.cmd_page.specs.Page.{status_of};
-ghost use Rattle.cmd_page.specs.PageEnds.{AddsRow, AddsRows, Draws, DrawsNone, IsSince};
+ghost use Rattle.cmd_page.specs.PageEnds.{AddsRow, AddsRows, Draws, DrawsNone, IsSince, ReadsClock};
 
 use crate::cells::status_of;
 use crate::page::{push_end, push_head, push_row};
@@ -12,6 +12,13 @@ use cmd_svc::{Observer, Services};
 use cmd_why::{Evidence, LocalTime, read_content};
 use std::alloc::{AllocError, Allocator};
 use tai_status::{Label, TimeSource, View};
+
+/// Reads the clock.
+fn read_clock<S: Services, C: TimeSource>(observer: &mut Observer<S, C>) -> Label
+    ensures { ReadsClock observer.old observer.new result }
+{
+    observer.clock.now()
+}
 
 /// Returns the local time of the last change of process, if there is a status.
 fn since_of<K: Evidence>(sources: &K, status: &Option<View>) -> LocalTime
@@ -63,9 +70,7 @@ where
 {
     for folder in folders {
         let found = find_one(observer, counts, sources, folder);
-        if add_row(alloc, page, sources, now, &found).is_err() {
-            return Err(AllocError);
-        }
+        add_row(alloc, page, sources, now, &found)?;
     }
     Ok(())
 }
@@ -91,7 +96,7 @@ where
         (DrawsNone (report_files (F.counts_at counts.now) (K.known sources.now)) (texts folders.now)
         observer.old observer.new) }
 {
-    let now = observer.clock.now();
+    let now = read_clock(observer);
     let time = sources.local_time(&now);
     let mut page = Vec::new(alloc.clone()?);
     push_head(alloc, &mut page, time.as_str())?;

@@ -63,15 +63,26 @@ fn chars_of<A: Allocator + Clone>(alloc: A, text: &str) -> Result<Vec<char, A>, 
     text.chars().collect(alloc)
 }
 
+/// Writes each of these characters so.
+fn push_all_visible<A: Allocator>(
+    out: &mut Vec<u8, A>,
+    characters: &[char],
+) -> Result<(), AllocError>
+    ensures { OnOk result (out.new.items ≡ out.old.items ++ flat_map visible_char characters.now) }
+{
+    for character in characters {
+        push_visible(out, *character)?;
+    }
+    Ok(())
+}
+
 /// Returns a text in which each character that is not seen is written as its bytes in hexadecimal digits.
 fn visible<A: Allocator + Clone>(alloc: &A, text: &str) -> Result<Vec<u8, A>, AllocError>
     ensures { IfOk result (λ seen. seen.items ≡ visible text.now) }
 {
     let characters = chars_of(alloc.clone()?, text)?;
     let mut out = Vec::new(alloc.clone()?);
-    for character in &characters {
-        push_visible(&mut out, *character)?;
-    }
+    push_all_visible(&mut out, &characters)?;
     Ok(out)
 }
 
@@ -100,8 +111,8 @@ fn push_entities<A: Allocator>(out: &mut Vec<u8, A>, bytes: &[u8]) -> Result<(),
     Ok(())
 }
 
-/// Writes a text into a page. In place of `&`, `<`, `>`, `"` and `'`, writes their entities. A control character, and one
-/// that turns the direction of text, is written as `\x` and two hexadecimal digits for each of its bytes.
+/// Writes a text into a page. In place of `&`, `<`, `>`, `"` and `'`, writes their entities. A control character, and
+/// one that turns the direction of text, is written as `\x` and two hexadecimal digits for each of its bytes.
 pub fn push_escaped<A: Allocator + Clone>(
     alloc: &A,
     out: &mut Vec<u8, A>,

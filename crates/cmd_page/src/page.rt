@@ -24,17 +24,20 @@ fn head_text() -> &'static str
 <html lang=\"en\"><head><meta charset=\"utf-8\"><title>Services</title>
 <meta name=\"viewport\" content=\"width=device-width, initial-scale=1\">
 <meta http-equiv=\"refresh\" content=\"10\">
-<meta http-equiv=\"Content-Security-Policy\" content=\"default-src 'none'; style-src 'unsafe-inline'\">
+<meta http-equiv=\"Content-Security-Policy\"
+content=\"default-src 'none'; style-src 'unsafe-inline'\">
 <style>
 :root{color-scheme:light dark;--up:#2e7d32;--warn:#9a6700;--died:#c62828}
 @media(prefers-color-scheme:dark){:root{--up:#66bb6a;--warn:#d29922;--died:#ef5350}}
 body{font:15px/1.4 system-ui,sans-serif;margin:1rem}
 table{border-collapse:collapse;width:100%}
-th,td{text-align:left;padding:.3rem .5rem;border-top:1px solid #8884;overflow-wrap:anywhere}
-td.up{color:var(--up)}td.warn{color:var(--warn)}
+th,td{text-align:left;padding:.3rem .5rem;border-top:1px solid #8884}
+tbody th{min-width:5rem;overflow-wrap:anywhere}
+td.more{white-space:nowrap}td.up{color:var(--up)}td.warn{color:var(--warn)}
 svg{display:block;width:20rem;height:1rem;background:#8882}
-rect.up{fill:var(--up)}rect.down{fill:#8888}rect.warn{fill:var(--warn)}rect.dark{fill:none}rect.died{fill:var(--died)}
-@media(max-width:60rem){.more{display:none}svg{width:9rem}}
+rect.up{fill:var(--up)}rect.down{fill:#8888}rect.warn{fill:var(--warn)}
+rect.dark{fill:none}rect.died{fill:var(--died)}
+@media(max-width:60rem){.more{display:none}svg{width:8rem}}
 </style></head><body>
 <p>Services at "
 }
@@ -46,8 +49,10 @@ fn heading_text() -> &'static str
 {
     ". The last hour of each: green is up, gray is down, yellow is paused or about a start.
 Red is the end of a process that nobody asked to end.</p>
-<table><thead><tr><th>Service</th><th>State</th><th class=\"more\">Since</th><th class=\"more\">Process</th>
-<th class=\"more\">Wanted</th><th class=\"more\">Restarts in the last hour</th><th class=\"more\">Last end</th>
+<table><thead><tr><th>Service</th><th>State</th><th class=\"more\">Since</th>
+<th class=\"more\">Process</th>
+<th class=\"more\">Wanted</th><th class=\"more\">Restarts in the last hour</th>
+<th class=\"more\">Last end</th>
 <th>Last hour</th></tr></thead><tbody>
 "
 }
@@ -182,6 +187,7 @@ fn push_hour<A: Allocator + Clone, B: Allocator>(
 }
 
 /// Writes the cells after the name of a service.
+#[tactic(auto, unfolding(crate::specs::Page::cells_text))]
 fn push_cells<A: Allocator + Clone, B: Allocator>(
     alloc: &A,
     out: &mut Vec<u8, A>,
@@ -203,8 +209,8 @@ fn push_cells<A: Allocator + Clone, B: Allocator>(
     push_hour(alloc, out, now, &status, content)
 }
 
-/// Writes the row of a service: what was found about it, its trace if there is a readable one, and the local time of its
-/// last change of process.
+/// Writes the row of a service, from what was found about it, its trace if there is a readable one, and the local time of
+/// its last change of process.
 #[tactic(auto, unfolding(crate::specs::Page::row_text))]
 pub fn push_row<A: Allocator + Clone, B: Allocator>(
     alloc: &A,

@@ -1,8 +1,8 @@
 //! The picture of the last hour of a service, and its restarts.
 ghost use Rattle.std.specs.Prelude.{◌≡◌, ◌++◌, ◌≤◌, ◌<◌, ◌^◌, flat_map, OnOk};
 ghost use Rattle.cmd_why.specs.Facts.{nanos};
-ghost use Rattle.cmd_page.specs.Picture.{class_of, death_text, deaths, has_more, has_run, is_asked, is_recent};
-ghost use Rattle.cmd_page.specs.Picture.{is_restart, mark, picture, place, ran_before, reaches_back, rectangle};
+ghost use Rattle.cmd_page.specs.Picture.{class_of, death_text, deaths, extent, has_more, has_run, is_asked, is_recent};
+ghost use Rattle.cmd_page.specs.Picture.{is_restart, mark, opening, picture, place, ran_before, reaches_back, rectangle};
 ghost use Rattle.cmd_page.specs.Picture.{rectangles, restarts, restarts_text, stretch_text};
 
 use crate::text::{push_number, push_text};
@@ -32,6 +32,17 @@ fn place(now: u128, moment: u128) -> u64
     AXIS - ago.min(u128::from(AXIS)) as u64
 }
 
+/// Writes the attributes of a rectangle from one place to another.
+#[tactic(auto, unfolding(crate::specs::Picture::extent))]
+fn push_extent<A: Allocator>(out: &mut Vec<u8, A>, from: u64, to: u64) -> Result<(), AllocError>
+    ensures { OnOk result (out.new.items ≡ out.old.items ++ extent from to) }
+{
+    push_text(out, "\" x=\"")?;
+    push_number(out, from)?;
+    push_text(out, "\" width=\"")?;
+    push_number(out, to.saturating_sub(from))
+}
+
 /// Writes a rectangle of a class, from one place to another.
 #[tactic(auto, unfolding(crate::specs::Picture::rectangle))]
 fn push_rectangle<A: Allocator>(
@@ -44,10 +55,7 @@ fn push_rectangle<A: Allocator>(
 {
     push_text(out, "<rect class=\"")?;
     push_text(out, class)?;
-    push_text(out, "\" x=\"")?;
-    push_number(out, from)?;
-    push_text(out, "\" width=\"")?;
-    push_number(out, to.saturating_sub(from))?;
+    push_extent(out, from, to)?;
     push_text(out, "\" height=\"1\"/>")
 }
 
@@ -155,6 +163,7 @@ fn has_more<A: Allocator>(content: &TraceText<A>) -> bool
 }
 
 /// Writes the rectangles of a trace: its stretches, and over them the deaths that nobody asked for.
+#[tactic(auto, unfolding(crate::specs::Picture::rectangles))]
 fn push_rectangles<A: Allocator + Clone, B: Allocator>(
     alloc: &A,
     out: &mut Vec<u8, A>,
@@ -169,8 +178,16 @@ fn push_rectangles<A: Allocator + Clone, B: Allocator>(
     push_deaths(out, nanos(now), has_more(content), content.entries())
 }
 
-/// Writes the picture of a trace: the hour before a clock reading, as rectangles. It says whether the trace leads to the
-/// record of the service.
+/// Returns the beginning of a picture.
+#[tactic(auto, unfolding(crate::specs::Picture::opening))]
+fn opening() -> &'static str
+    ensures { result.now ≡ opening }
+{
+    "<svg viewBox=\"0 0 3600 1\" preserveAspectRatio=\"none\" role=\"img\" aria-label=\"the last hour\">"
+}
+
+/// Writes the picture of a trace: the hour before a clock reading, as rectangles. If the trace does not lead to the record
+/// of the service, the time after its last label is left empty.
 #[tactic(auto, unfolding(crate::specs::Picture::picture))]
 pub fn push_picture<A: Allocator + Clone, B: Allocator>(
     alloc: &A,
@@ -181,10 +198,7 @@ pub fn push_picture<A: Allocator + Clone, B: Allocator>(
 ) -> Result<(), AllocError>
     ensures { OnOk result (out.new.items ≡ out.old.items ++ picture now.now leads content.now) }
 {
-    push_text(
-        out,
-        "<svg viewBox=\"0 0 3600 1\" preserveAspectRatio=\"none\" role=\"img\" aria-label=\"the last hour\">",
-    )?;
+    push_text(out, opening())?;
     push_rectangles(alloc, out, now, leads, content)?;
     push_text(out, "</svg>")
 }

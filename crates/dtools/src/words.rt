@@ -60,31 +60,68 @@ fn program_words(rt: &HostRuntime) -> Result<Vec<String>, WordsFault> {
 #[inline(never)]
 pub(crate) fn listed_words(rt: &HostRuntime) -> Result<Vec<String>, WordsFault> {
     let words = program_words(rt)?;
-    let Some(with_loggers) = lists_services(&words) else {
+    let Some(listing) = listing_in(&words) else {
         return Ok(words);
     };
-    match service_words(rt, &rt.alloc(), with_loggers) {
+    match service_words(rt, &rt.alloc(), listing.with_loggers) {
         Ok(None) => Ok(words),
-        Ok(Some(services)) => svstat_of(rt, services),
+        Ok(Some(services)) => svstat_of(rt, listing.form, services),
         Err(fault) if fault.kind() == ErrorKind::OutOfMemory => Err(WordsFault::OutOfMemory),
         Err(fault) => Err(WordsFault::NoList(Cause::of(&fault))),
     }
 }
 
-/// Returns whether words ask for all services with their loggers, or without them. Returns None if they do not ask for
-/// all services.
-fn lists_services(words: &[String]) -> Option<bool> {
-    match words {
-        [command] if command.as_str() == "svstat" => Some(false),
-        [command, option] if command.as_str() == "svstat" && option.as_str() == "-l" => Some(true),
+/// What is asked about all services.
+#[derive(Clone, Copy, Debug)]
+struct Listing {
+    /// Whether their loggers are asked about too.
+    with_loggers: bool,
+    /// The word that names a form of the report, if there is one.
+    form: Option<&'static str>,
+}
+
+/// Returns what words ask about all services. Returns None if they do not ask for all services.
+fn listing_in(words: &[String]) -> Option<Listing> {
+    let (with_loggers, form) = match words {
+        [command] if command.as_str() == "svstat" => (false, None),
+        [command, word] if command.as_str() == "svstat" => option_in(word.as_str())?,
+        [command, option, word] if command.as_str() == "svstat" && option.as_str() == "-l" => {
+            (true, Some(form_in(word.as_str())?))
+        }
+        _ => return None,
+    };
+    Some(Listing { with_loggers, form })
+}
+
+/// Returns what a single word after `svstat` asks for, if it is no service: the loggers too, or a form.
+fn option_in(word: &str) -> Option<(bool, Option<&'static str>)> {
+    match word {
+        "-l" => Some((true, None)),
+        word => Some((false, Some(form_in(word)?))),
+    }
+}
+
+/// Returns the form that a word names.
+fn form_in(word: &str) -> Option<&'static str> {
+    match word {
+        "--json" => Some("--json"),
+        "--metrics" => Some("--metrics"),
+        "--html" => Some("--html"),
         _ => None,
     }
 }
 
-/// Returns the words for `svstat` of services.
-fn svstat_of(rt: &HostRuntime, services: Vec<String>) -> Result<Vec<String>, WordsFault> {
+/// Returns the words for `svstat` of services, in a form if there is one.
+fn svstat_of(
+    rt: &HostRuntime,
+    form: Option<&'static str>,
+    services: Vec<String>,
+) -> Result<Vec<String>, WordsFault> {
     let mut words = Vec::new(rt.alloc());
     push_word(&mut words, String::from_str(rt.alloc(), "svstat")?)?;
+    if let Some(form) = form {
+        push_word(&mut words, String::from_str(rt.alloc(), form)?)?;
+    }
     for service in services {
         push_word(&mut words, service)?;
     }
