@@ -127,7 +127,7 @@ is 'up' "s|up|$(date -u -d "@$((now - 7200))" '+%Y-%m-%d %H:%M:%S')|4711|up|0|SI
 is 'up: title' Services "$(python3 read.py title <page.html)"
 is 'up: elements' "$everything" "$(python3 read.py elements <page.html)"
 is 'up: loads nothing' "default-src 'none'; style-src 'unsafe-inline'" \
-  "$(sed -n 's/.*Content-Security-Policy" content="\([^"]*\)".*/\1/p' page.html)"
+  "$(grep -A 1 Content-Security-Policy page.html | sed -n 's/^content="\([^"]*\)">$/\1/p')"
 rm s/supervise/exit
 
 # rectangles NAME WANTED: those of s, with places and widths rounded to ten seconds
@@ -145,7 +145,8 @@ trace s 0 starting "$(record 7300 0 $up)" 'started 4711 7200' 'clock 7199' 'byte
 rectangles 'one that was asked for' 'up 0+2400; down 2400+600; warn 3000+0; up 3000+600; '
 trace s 0 starting "$(record 7300 0 $up)" 'started 4710 7290' 'clock 7289' 'byte t' 'death 7250' \
   'started 4711 7200' 'clock 7199' 'byte u' 'death 1200' 'started 4712 600' 'clock 599'
-rectangles 'a signal to the process before it, and a byte without a signal' 'up 0+2400; down 2400+600; warn 3000+0; up 3000+600; died 2390+10; '
+rectangles 'a signal to the process before it, and a byte without a signal' \
+  'up 0+2400; down 2400+600; warn 3000+0; up 3000+600; died 2390+10; '
 trace s 9 up "$(record 7200 4711 $up)" 'death 1200' 'started 4712 600' 'clock 599'
 rectangles 'a process that began before the entries' 'up 0+2400; down 2400+600; warn 3000+0; up 3000+600; '
 trace s 9 up "$(record 1800 4711 $up)" 'death 1200' 'started 4712 600' 'clock 599'
@@ -167,14 +168,14 @@ is 'nobody there' 'nosuch|not supervised||||||' "$(python3 read.py row 1 <page.h
 is 'nobody there: reported' "svstat: nosuch: $none" "$(cat reported)"
 
 # Names of any bytes: each has one row, and is text.
-names=('<script>document.title=1' '<img src=x onerror=document.title=2>' '"><b>bold' "'quoted'" 'a&amp;b' '&lt;' '--json' 'grün' '日本'
-  $'line\nend' $'\x01\x1f\x7f' $'x\xe2\x80\xaegpj.exe' $'\xe2\x81\xa6isolated\xe2\x81\xa9' $'\xc2\x85next' "$(printf 'n%.0s' $(seq 200))")
-shown=('<script>document.title=1' '<img src=x onerror=document.title=2>' '"><b>bold' "'quoted'" 'a&amp;b' '&lt;' '--json' 'grün' '日本'
-  'line\x0aend' '\x01\x1f\x7f' 'x\xe2\x80\xaegpj.exe' '\xe2\x81\xa6isolated\xe2\x81\xa9' '\xc2\x85next' "$(printf 'n%.0s' $(seq 200))")
+same=('<script>document.title=1' '<img src=x onerror=document.title=2>' '"><b>bold' "'quoted'" 'a&amp;b' '&lt;' '--json' 'grün' '日本'
+  "$(printf 'n%.0s' $(seq 200))")
+names=("${same[@]}" $'line\nend' $'\x01\x1f\x7f' $'x\xe2\x80\xaegpj.exe' $'\xe2\x81\xa6isolated\xe2\x81\xa9' $'\xc2\x85next')
+shown=("${same[@]}" 'line\x0aend' '\x01\x1f\x7f' 'x\xe2\x80\xaegpj.exe' '\xe2\x81\xa6isolated\xe2\x81\xa9' '\xc2\x85next')
 for name in "${names[@]}"; do mkdir -- "$name"; done
 page 'names' "${names[@]}"
 is 'names' "$(printf '%s\n' "${shown[@]}")" "$(python3 read.py names <page.html)"
-is 'names: elements' "$(echo $everything | sed 's/ rect / /; s/ svg / /')" "$(python3 read.py elements <page.html)"
+is 'names: elements' "$(echo "$everything" | sed 's/ rect / /; s/ svg / /')" "$(python3 read.py elements <page.html)"
 
 # All services of SVDIR, and faults.
 mkdir -p all/web/log all/db

@@ -81,8 +81,16 @@ pub drawn : (time : List ℕ) (now : Tai64n) (rows : List Row) (head grown page 
 unfolding page_text
 drawn time now rows head grown page first then last =
     let body = flat_map (row_text now) rows in
+    let rest : (escaped time ++ heading_text) ++ (body ++ end_text)
+    ≡ escaped time ++ (heading_text ++ (body ++ end_text)) =
+    append_assoc (escaped time) heading_text (body ++ end_text) in
+    let whole : head_text ++ ((escaped time ++ heading_text) ++ (body ++ end_text))
+    ≡ head_text ++ (escaped time ++ (heading_text ++ (body ++ end_text))) =
+    ap (λ (t : List ℕ). head_text ++ t) rest in
+    let all : page ≡ head_text ++ (escaped time ++ (heading_text ++ (body ++ end_text))) =
     last ∙ ap (λ (t : List ℕ). t ++ end_text) then
     ∙ ap (λ (t : List ℕ). (t ++ body) ++ end_text) first
     ∙ append_assoc (head_text ++ (escaped time ++ heading_text)) body end_text
     ∙ append_assoc head_text (escaped time ++ heading_text) (body ++ end_text)
-    ∙ ap (λ (t : List ℕ). head_text ++ t) (append_assoc (escaped time) heading_text (body ++ end_text))
+    ∙ whole in
+    all

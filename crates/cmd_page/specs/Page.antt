@@ -22,7 +22,7 @@ use Rattle.cmd_page.specs.Escape.{escaped}
 use Rattle.cmd_page.specs.Picture.{picture, restarts_text}
 
 -- What is in the row of a service: what a look found, its trace if there is a readable one, and the local time of its
--- last change of process, or nothing if that is not known.
+-- last change of process. If that is not known, there is no such time.
 pub record Row : Type 0 where
   pub found : Found
   pub trace : Option Content
@@ -127,11 +127,16 @@ cells_text now row =
     ++ cell (codes "more") (last_text now row.found.last)
     ++ cell (codes "hour") (picture_in now (status_of row.found.look) row.trace)
 
+-- the name of a service, in the first cell of its row
+unfoldable pub name_text : (folder : List ℕ) → List ℕ
+name_text folder = codes "<tr><th scope=\"row\">" ++ escaped folder ++ codes "</th>"
+
+unfoldable pub row_end : List ℕ
+row_end = codes "</tr>" ++ 10 ∷ []
+
 -- the row of a service
 unfoldable pub row_text : (now : Tai64n) → Row → List ℕ
-row_text now row =
-    codes "<tr><th scope=\"row\">" ++ escaped row.found.folder.now ++ codes "</th>" ++ cells_text now row
-    ++ codes "</tr>" ++ 10 ∷ []
+row_text now row = name_text row.found.folder.now ++ cells_text now row ++ row_end
 
 -- The page
 

@@ -16,7 +16,7 @@ use Rattle.cmd_why.specs.declared.timeline.Stretch.{Stretch}
 
 -- Places
 
--- Where a moment is on the axis, in whole seconds. What is more than an hour ago is at the left end.
+-- The place of a moment on the axis, in whole seconds. What is more than an hour ago is at the left end.
 abbrev pub place : (now moment : ℕ) → ℕ
 place now moment = 3600 - min 3600 ((now - moment) / 10 ^ 9)
 

@@ -61,7 +61,9 @@ pub(crate) fn state_word(look: &Look) -> &'static str
         Look::Unread => "status unreadable",
         Look::Bad(_) => "status damaged",
         Look::Standing {
-            loaded, finishing, ..
+            loaded,
+            finishing,
+            ..
         } => side_word(&loaded.view(), *finishing),
     }
 }
@@ -82,13 +84,7 @@ pub(crate) fn state_class(status: &Option<View>) -> &'static str
 {
     match status {
         None => "warn",
-        Some(status) if is_running(status) => {
-            if status.paused {
-                "warn"
-            } else {
-                "up"
-            }
-        }
+        Some(status) if is_running(status) => { if status.paused { "warn" } else { "up" } }
         Some(status) if wants_up(status.want) => "warn",
         Some(_) => "down",
     }
@@ -204,11 +200,7 @@ fn push_ending<A: Allocator>(out: &mut Vec<u8, A>, ending: Ending) -> Result<(),
 }
 
 /// Writes a number and its unit.
-fn push_unit<A: Allocator>(
-    out: &mut Vec<u8, A>,
-    number: u64,
-    unit: &str,
-) -> Result<(), AllocError>
+fn push_unit<A: Allocator>(out: &mut Vec<u8, A>, number: u64, unit: &str) -> Result<(), AllocError>
     ensures { OnOk result (out.new.items ≡ out.old.items ++ decimal number ++ unit.now) }
 {
     push_number(out, number)?;

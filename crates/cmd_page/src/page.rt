@@ -3,16 +3,18 @@ ghost use Rattle.std.specs.Prelude.{◌≡◌, ◌++◌, codes, OnOk};
 ghost use Rattle.std.specs.Option.{option_copied};
 ghost use Rattle.cmd_page.specs.Escape.{escaped};
 ghost use Rattle.cmd_page.specs.Page.{cell, cells_text, end_text, head_text, heading_text, last_text, picture_in};
-ghost use Rattle.cmd_page.specs.Page.{process_text, restarts_in, row, row_text};
+ghost use Rattle.cmd_page.specs.Page.{name_text, process_text, restarts_in, row, row_end, row_text};
 
-use crate::cells::{push_last, push_picture_in, push_process, push_restarts_in};
-use crate::cells::{state_class, state_word, status_of, wanted_text};
+use crate::cells::{
+    push_last, push_picture_in, push_process, push_restarts_in, state_class, state_word, status_of,
+    wanted_text,
+};
 use crate::escape::push_escaped;
 use crate::text::push_text;
 use cmd_report::Found;
 use std::alloc::{AllocError, Allocator};
-use svc_exit::Exit;
 use sup_trace::TraceText;
+use svc_exit::Exit;
 use tai_status::{Label, View};
 
 /// Returns what is before the time of the page.
@@ -209,6 +211,28 @@ fn push_cells<A: Allocator + Clone, B: Allocator>(
     push_hour(alloc, out, now, &status, content)
 }
 
+/// Writes the first cell of a row.
+#[tactic(auto, unfolding(crate::specs::Page::name_text))]
+fn push_name<A: Allocator + Clone>(
+    alloc: &A,
+    out: &mut Vec<u8, A>,
+    folder: &str,
+) -> Result<(), AllocError>
+    ensures { OnOk result (out.new.items ≡ out.old.items ++ name_text folder.now) }
+{
+    push_text(out, "<tr><th scope=\"row\">")?;
+    push_escaped(alloc, out, folder)?;
+    push_text(out, "</th>")
+}
+
+/// Returns the end of a row.
+#[tactic(auto, unfolding(crate::specs::Page::row_end))]
+fn row_end() -> &'static str
+    ensures { result.now ≡ row_end }
+{
+    "</tr>\n"
+}
+
 /// Writes the row of a service, from what was found about it, its trace if there is a readable one, and the local time of
 /// its last change of process.
 #[tactic(auto, unfolding(crate::specs::Page::row_text))]
@@ -223,9 +247,7 @@ pub fn push_row<A: Allocator + Clone, B: Allocator>(
     ensures { OnOk result (out.new.items ≡ out.old.items
         ++ row_text now.now (row found.now (option_copied content.entry) since.now)) }
 {
-    push_text(out, "<tr><th scope=\"row\">")?;
-    push_escaped(alloc, out, found.folder)?;
-    push_text(out, "</th>")?;
+    push_name(alloc, out, found.folder)?;
     push_cells(alloc, out, now, found, content, since)?;
-    push_text(out, "</tr>\n")
+    push_text(out, row_end())
 }

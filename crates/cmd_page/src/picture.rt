@@ -23,7 +23,7 @@ const SECOND: u128 = 1_000_000_000;
 
 const HOUR: u128 = 3_600_000_000_000;
 
-/// Returns where a moment is in a picture, in whole seconds. What is more than an hour ago is at its left end.
+/// Returns the place of a moment in a picture, in whole seconds. What is more than an hour ago is at its left end.
 fn place(now: u128, moment: u128) -> u64
     ensures value { result ≡ place now moment }
     ensures within { result ≤ 3600 }
@@ -273,8 +273,5 @@ pub fn push_restarts<A: Allocator, B: Allocator>(
     if !(leads && reaches_back(now, content)) {
         push_text(out, "at least ")?;
     }
-    push_number(
-        out,
-        restarts(now, ran_before(content), content.entries()),
-    )
+    push_number(out, restarts(now, ran_before(content), content.entries()))
 }

@@ -12,10 +12,7 @@ pub(crate) fn push_text<A: Allocator>(out: &mut Vec<u8, A>, text: &str) -> Resul
 }
 
 /// Writes a number at the end of a text.
-pub(crate) fn push_number<A: Allocator>(
-    out: &mut Vec<u8, A>,
-    number: u64,
-) -> Result<(), AllocError>
+pub(crate) fn push_number<A: Allocator>(out: &mut Vec<u8, A>, number: u64) -> Result<(), AllocError>
     ensures { OnOk result (out.new.items ≡ out.old.items ++ decimal number) }
 {
     let mut buffer = Buffer::new();

@@ -124,7 +124,12 @@ where
             let services = &mut observer.services;
             return run_restart(waiting, rt.alloc(), services, pace, words, faults);
         }
-        Command::Svscan | Command::Supervise => return run_svscan(waiting, service_set, words, faults),
+        Command::Svscan | Command::Supervise => return run_svscan(
+            waiting,
+            service_set,
+            words,
+            faults,
+        ),
         Command::Envdir => return run_envdir(rt, launcher, rt.alloc(), words, writer, faults),
         Command::Trace => return run_trace(rt, rt.alloc(), zone, words, writer, faults),
         Command::Help => return run_help(words, writer, faults),

@@ -48,7 +48,7 @@ returns-clause-ok g c =
     let head : c.push_head.new.out.items ≡ head_text ++ escaped time ++ heading_text = search rules in
     let page : c.push_end.new.out.items ≡ c.add_rows.new.page.items ++ end_text = search rules in
     let draws : Draws files (texts c.args.folders.now) c.args.observer.now c.add_rows.new.observer
-        c.push_end.new.out.items = record {
+    c.push_end.new.out.items = record {
       now = c.read_clock-now.result;
       middle = c.read_clock-now.new.observer;
       time = time;
