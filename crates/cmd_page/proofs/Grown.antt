@@ -51,8 +51,8 @@ adds_rows-then files now words word old middle new before text after found done 
 }
 
 -- No page: nothing was looked at, or everything was.
-pub none-looked : (files : Files) (words : List (List ℕ)) (old middle : Sight) (now : Tai64n) → ReadsClock old middle now
-    → DrawsNone files words old middle
+pub none-looked : (files : Files) (words : List (List ℕ)) (old middle : Sight) (now : Tai64n)
+    → ReadsClock old middle now → DrawsNone files words old middle
 none-looked files words old middle now read = record {
   now = now;
   middle = middle;
@@ -80,17 +80,5 @@ pub drawn : (time : List ℕ) (now : Tai64n) (rows : List Row) (head grown page 
     → page ≡ grown ++ end_text → page ≡ page_text time now rows
 unfolding page_text
 drawn time now rows head grown page first then last =
-    let body = flat_map (row_text now) rows in
-    let rest : (escaped time ++ heading_text) ++ (body ++ end_text)
-    ≡ escaped time ++ (heading_text ++ (body ++ end_text)) =
-    append_assoc (escaped time) heading_text (body ++ end_text) in
-    let whole : head_text ++ ((escaped time ++ heading_text) ++ (body ++ end_text))
-    ≡ head_text ++ (escaped time ++ (heading_text ++ (body ++ end_text))) =
-    ap (λ (t : List ℕ). head_text ++ t) rest in
-    let all : page ≡ head_text ++ (escaped time ++ (heading_text ++ (body ++ end_text))) =
     last ∙ ap (λ (t : List ℕ). t ++ end_text) then
-    ∙ ap (λ (t : List ℕ). (t ++ body) ++ end_text) first
-    ∙ append_assoc (head_text ++ (escaped time ++ heading_text)) body end_text
-    ∙ append_assoc head_text (escaped time ++ heading_text) (body ++ end_text)
-    ∙ whole in
-    all
+    ∙ ap (λ (t : List ℕ). t ++ flat_map (row_text now) rows ++ end_text) first

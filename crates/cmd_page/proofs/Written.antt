@@ -32,7 +32,8 @@ reads_byte byte written text reads =
             | false ↦ λ d. elim (byte == 39) as (λ t.
                 (byte == 39) ≡ t → ReadsAs (entity byte ++ written) (byte ∷ text)) [
                   | true ↦ λ is. special byte 39 written text is (Apostrophe written text reads)
-                  | false ↦ λ e. subst (λ (w : List ℕ). ReadsAs (w ++ written) (byte ∷ text)) (sym (plain byte a b c d e))
+                  | false ↦ λ e. subst (λ (w : List ℕ). ReadsAs (w ++ written) (byte ∷ text))
+                      (sym (plain byte a b c d e))
                       (Plain byte (apart byte 38 a) (apart byte 60 b) (apart byte 62 c) (apart byte 34 d)
                       (apart byte 39 e) written text reads)
                 ] refl

@@ -127,9 +127,12 @@ cells_text now row =
     ++ cell (codes "more") (last_text now row.found.last)
     ++ cell (codes "hour") (picture_in now (status_of row.found.look) row.trace)
 
+unfoldable pub row_begin : List ℕ
+row_begin = codes "<tr><th scope=\"row\">"
+
 -- the name of a service, in the first cell of its row
 unfoldable pub name_text : (folder : List ℕ) → List ℕ
-name_text folder = codes "<tr><th scope=\"row\">" ++ escaped folder ++ codes "</th>"
+name_text folder = row_begin ++ escaped folder ++ codes "</th>"
 
 unfoldable pub row_end : List ℕ
 row_end = codes "</tr>" ++ 10 ∷ []

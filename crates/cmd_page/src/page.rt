@@ -3,7 +3,7 @@ ghost use Rattle.std.specs.Prelude.{◌≡◌, ◌++◌, codes, OnOk};
 ghost use Rattle.std.specs.Option.{option_copied};
 ghost use Rattle.cmd_page.specs.Escape.{escaped};
 ghost use Rattle.cmd_page.specs.Page.{cell, cells_text, end_text, head_text, heading_text, last_text, picture_in};
-ghost use Rattle.cmd_page.specs.Page.{name_text, process_text, restarts_in, row, row_end, row_text};
+ghost use Rattle.cmd_page.specs.Page.{name_text, process_text, restarts_in, row, row_begin, row_end, row_text};
 
 use crate::cells::{
     push_last, push_picture_in, push_process, push_restarts_in, state_class, state_word, status_of,
@@ -211,6 +211,14 @@ fn push_cells<A: Allocator + Clone, B: Allocator>(
     push_hour(alloc, out, now, &status, content)
 }
 
+/// Returns the beginning of a row.
+#[tactic(auto, unfolding(crate::specs::Page::row_begin))]
+fn row_begin() -> &'static str
+    ensures { result.now ≡ row_begin }
+{
+    "<tr><th scope=\"row\">"
+}
+
 /// Writes the first cell of a row.
 #[tactic(auto, unfolding(crate::specs::Page::name_text))]
 fn push_name<A: Allocator + Clone>(
@@ -220,7 +228,7 @@ fn push_name<A: Allocator + Clone>(
 ) -> Result<(), AllocError>
     ensures { OnOk result (out.new.items ≡ out.old.items ++ name_text folder.now) }
 {
-    push_text(out, "<tr><th scope=\"row\">")?;
+    push_text(out, row_begin())?;
     push_escaped(alloc, out, folder)?;
     push_text(out, "</th>")
 }
@@ -233,8 +241,8 @@ fn row_end() -> &'static str
     "</tr>\n"
 }
 
-/// Writes the row of a service, from what was found about it, its trace if there is a readable one, and the local time of
-/// its last change of process.
+/// Writes the row of a service, from what was found about it, its trace if there is a readable one, and the local time
+/// of its last change of process.
 #[tactic(auto, unfolding(crate::specs::Page::row_text))]
 pub fn push_row<A: Allocator + Clone, B: Allocator>(
     alloc: &A,

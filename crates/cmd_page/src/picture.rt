@@ -1,9 +1,9 @@
 //! The picture of the last hour of a service, and its restarts.
 ghost use Rattle.std.specs.Prelude.{◌≡◌, ◌++◌, ◌≤◌, ◌<◌, ◌^◌, flat_map, OnOk};
 ghost use Rattle.cmd_why.specs.Facts.{nanos};
-ghost use Rattle.cmd_page.specs.Picture.{class_of, death_text, deaths, extent, has_more, has_run, is_asked, is_recent};
-ghost use Rattle.cmd_page.specs.Picture.{is_restart, mark, opening, picture, place, ran_before, reaches_back, rectangle};
-ghost use Rattle.cmd_page.specs.Picture.{rectangles, restarts, restarts_text, stretch_text};
+ghost use Rattle.cmd_page.specs.Picture.{class_of, death_text, deaths, extent, has_more, has_run, is_asked};
+ghost use Rattle.cmd_page.specs.Picture.{is_recent, is_restart, mark, opening, picture, place, ran_before};
+ghost use Rattle.cmd_page.specs.Picture.{reaches_back, rectangle, rectangles, restarts, restarts_text, stretch_text};
 
 use crate::text::{push_number, push_text};
 use cmd_why::{Shown, Stretch, is_signal, nanos, stretches_of};
@@ -186,8 +186,8 @@ fn opening() -> &'static str
     "<svg viewBox=\"0 0 3600 1\" preserveAspectRatio=\"none\" role=\"img\" aria-label=\"the last hour\">"
 }
 
-/// Writes the picture of a trace: the hour before a clock reading, as rectangles. If the trace does not lead to the record
-/// of the service, the time after its last label is left empty.
+/// Writes the picture of a trace: the hour before a clock reading, as rectangles. If the trace does not lead to the
+/// record of the service, the time after its last label is left empty.
 #[tactic(auto, unfolding(crate::specs::Picture::picture))]
 pub fn push_picture<A: Allocator + Clone, B: Allocator>(
     alloc: &A,
