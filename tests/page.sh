@@ -124,6 +124,8 @@ page 'up' s
 is 'up: reported' '' "$(cat reported)"
 is 'up' "s|up|$(date -u -d "@$((now - 7200))" '+%Y-%m-%d %H:%M:%S')|4711|up|0|SIGKILL, 5 min ago|up 0+3600; " \
   "$(python3 read.py row 0 <page.html)"
+TZ=JST-9 page 'a zone' s
+is 'a zone' "$(TZ=JST-9 date -d "@$((now - 7200))" '+%Y-%m-%d %H:%M:%S')" "$(python3 read.py row 0 <page.html | cut -d'|' -f3)"
 is 'up: title' Services "$(python3 read.py title <page.html)"
 is 'up: elements' "$everything" "$(python3 read.py elements <page.html)"
 is 'up: loads nothing' "default-src 'none'; style-src 'unsafe-inline'" \

@@ -146,6 +146,7 @@ where
 fn zone_for(rt: &HostRuntime, words: &[&str]) -> Result<LocalZone, AllocError> {
     match words {
         ["tai64nlocal" | "why", ..] => system_zone(rt),
+        ["svstat", "--html", ..] => system_zone(rt),
         ["trace", words @ ..] if words.iter().any(|word| *word == "--local") => system_zone(rt),
         _ => Ok(LocalZone::Utc),
     }
