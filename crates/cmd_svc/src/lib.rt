@@ -8,6 +8,7 @@
 mod escaping;
 mod form;
 mod line;
+mod listed;
 mod look;
 mod missing;
 mod observer;
@@ -23,6 +24,7 @@ mod words;
 pub use escaping::shown;
 pub use form::LineForm;
 pub use line::{is_running, stat_line};
+pub use listed::{ListedLine, Shade, is_colored, widest};
 pub use look::{Look, fault_name, look_at};
 pub use missing::tell_missing;
 pub use observer::Observer;

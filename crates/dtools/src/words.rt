@@ -53,21 +53,40 @@ fn program_words(rt: &HostRuntime) -> Result<Vec<String>, WordsFault> {
     Ok(words)
 }
 
-/// Returns the words of the program. If they name `svstat` and no service, and there is a folder of services, words that
-/// name all of these are added, and with `-l` their loggers too.
+/// The words of the program.
+#[derive(Debug, Drop)]
+pub(crate) struct ProgramWords {
+    pub(crate) words: Vec<String>,
+    /// Whether they name all services, which nobody named, for lines that people read.
+    pub(crate) is_list: bool,
+}
+
+/// Returns the words of the program. If they name `svstat` and no service, and there is a folder of services, words
+/// that name all of these are added, and with `-l` their loggers too.
 ///
 /// It is not inlined, so that its paths are not on the stack while a command runs.
 #[inline(never)]
-pub(crate) fn listed_words(rt: &HostRuntime) -> Result<Vec<String>, WordsFault> {
+pub(crate) fn listed_words(rt: &HostRuntime) -> Result<ProgramWords, WordsFault> {
     let words = program_words(rt)?;
     let Some(listing) = listing_in(&words) else {
-        return Ok(words);
+        return Ok(as_given(words));
     };
     match service_words(rt, &rt.alloc(), listing.with_loggers) {
-        Ok(None) => Ok(words),
-        Ok(Some(services)) => svstat_of(rt, listing.form, services),
+        Ok(None) => Ok(as_given(words)),
+        Ok(Some(services)) => Ok(ProgramWords {
+            words: svstat_of(rt, listing.form, services)?,
+            is_list: listing.form.is_none(),
+        }),
         Err(fault) if fault.kind() == ErrorKind::OutOfMemory => Err(WordsFault::OutOfMemory),
         Err(fault) => Err(WordsFault::NoList(Cause::of(&fault))),
+    }
+}
+
+/// Returns words as they were given.
+fn as_given(words: Vec<String>) -> ProgramWords {
+    ProgramWords {
+        words,
+        is_list: false,
     }
 }
 
