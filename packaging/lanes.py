@@ -20,7 +20,7 @@ SECONDS = {
     "trace_words": 40, "cmd_base": 23, "svc_exit": 47, "svc_places": 20, "svc_left": 61, "svc_world": 325, "svc_door": 98,
     "svc_host": 449, "svc_maker": 260, "cmd_sim": 109, "cmd_trace": 100, "cmd_filters": 30, "cmd_help": 27,
     "cmd_envdir": 181, "cmd_multilog": 278, "cmd_svc": 159, "cmd_local": 113, "cmd_why": 339,
-    "cmd_report": 152, "cmd_wait": 63, "svscan_rounds": 130, "cmd_svscan": 430,
+    "cmd_report": 152, "cmd_page": 200, "cmd_wait": 63, "svscan_rounds": 130, "cmd_svscan": 430,
     "dtools": 280,
 }
 

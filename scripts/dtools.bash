@@ -25,7 +25,7 @@ _dtools() {
   fi
   case $command:$word:$before in
     svc:-*) mapfile -t COMPREPLY < <(compgen -W '-u -d -o -p -c -h -a -i -t -k -x -1 -2 -q -dx -W' -- "$word") ;;
-    svstat:-*) mapfile -t COMPREPLY < <(compgen -W '--json --metrics' -- "$word") ;;
+    svstat:-*) mapfile -t COMPREPLY < <(compgen -W '-l --json --metrics --html' -- "$word") ;;
     why:-*) mapfile -t COMPREPLY < <(compgen -W '--timeline' -- "$word") ;;
     wait:-* | svwait:-*) mapfile -t COMPREPLY < <(compgen -W '-u -d -x -r -t' -- "$word") ;;
     restart:-* | svrestart:-*) mapfile -t COMPREPLY < <(compgen -W '-t' -- "$word") ;;

@@ -1,6 +1,6 @@
 #!/usr/bin/env bash
-# The files in contrib/ that watch many machines, next to the program that the first word names: dtools-metrics; and if they
-# are installed promtool, systemd-analyze and rsyslogd, which here ships what multilog writes to another rsyslogd on loopback.
+# The files in contrib/ that watch many machines, next to the program that the first word names: dtools-metrics, the units of
+# dtools-page; and if they are installed promtool, systemd-analyze and rsyslogd, which here ships what multilog writes to another rsyslogd on loopback.
 # gate: 15 seconds
 top=$(realpath "$(dirname "$0")/..")
 . "$top/tests/checks.sh" "$1"
@@ -50,7 +50,9 @@ if command -v systemd-analyze >/dev/null; then
   cp "$top/contrib/dtools-metrics.timer" units
   sed "s|/usr/local/bin/dtools-metrics|$top/contrib/dtools-metrics|" "$top/contrib/dtools-metrics.service" \
     >units/dtools-metrics.service
-  systemd-analyze verify --man=no units/dtools-metrics.timer units/dtools-metrics.service >verified 2>&1
+  cp "$top/contrib/dtools-page.timer" units
+  sed "s|/usr/local/bin/dtools-page|$top/contrib/dtools-page|" "$top/contrib/dtools-page.service" >units/dtools-page.service
+  systemd-analyze verify --man=no units/dtools-{metrics,page}.{timer,service} >verified 2>&1
   is 'systemd-analyze: status' 0 "$?"
   is 'systemd-analyze' '' "$(grep dtools verified)"
 fi

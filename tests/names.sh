@@ -141,18 +141,42 @@ ln -s "$room/all/web" all/zlink
 ln -s nowhere all/znone
 mkdir 'all/'$'\xff'
 "$program" wait -u -t 60 all/--json all/web/log all/zlink || exit 1
-rows="$room/all/--json: up (pid N) N seconds
-$room/all/-u: up (pid N) N seconds
-$room/all/both: up (pid N) N seconds
-line\x0aend: up (pid N) N seconds
-web: up (pid N) N seconds
-with space: up (pid N) N seconds
-zlink: up (pid N) N seconds"
-ended 'by SVDIR' 0 "$rows" '' svstat
-logger="$room/all/web/log: up (pid N) N seconds"
-ended 'with loggers' 0 "${rows/with space/$logger
-with space}
-$room/all/zlink/log: up (pid N) N seconds" '' svstat -l
+# rows SHADE NAMES..: a line for each, with the states in one column. Names of more than 32 bytes are not counted.
+rows() {
+  local shade=$1 width=0 name
+  shift
+  for name; do [ ${#name} -le 32 ] && [ ${#name} -gt $width ] && width=${#name}; done
+  for name; do
+    printf '%s:' "${name/$'\n'/\\x0a}"
+    [ ${#name} -ge $width ] || printf '%*s' $((width - ${#name})) ''
+    printf ' %s (pid N) N seconds\n' "$shade"
+  done
+}
+list=("$room/all/--json" "$room/all/-u" "$room/all/both" $'line\nend' web 'with space' zlink)
+ended 'by SVDIR' 0 "$(rows up "${list[@]}")" '' svstat
+ended 'with loggers' 0 "$(rows up "${list[@]:0:5}" "$room/all/web/log" "${list[@]:5}" "$room/all/zlink/log")" '' svstat -l
+if command -v python3 >/dev/null; then
+  # terminal: what a terminal gets; numbers are N
+  terminal() {
+    (cd work && python3 -c 'import pty, sys; pty.spawn(sys.argv[1:])' "$program" "$@" </dev/null) | tr -d '\r' |
+      sed -E 's/\(pid [0-9]+\) [0-9]+ s/(pid N) N s/; s/(down[^ ]*) [0-9]+ s/\1 N s/'
+  }
+  green=$'\e[32mup\e[0m'
+  is 'a terminal' "$(rows "$green" "${list[@]}")" "$(terminal svstat)"
+  is 'a terminal, NO_COLOR empty' "$(rows "$green" "${list[@]}")" "$(NO_COLOR='' terminal svstat)"
+  is 'a terminal, NO_COLOR' "$(rows up "${list[@]}")" "$(NO_COLOR=1 terminal svstat)"
+  is 'a terminal, and a service' 'web: up (pid N) N seconds' "$(terminal svstat web)"
+  touch all/both/down
+  "$program" svc -d all/both && "$program" wait -d -t 60 all/both
+  is 'a terminal: down' $'\e[33mdown\e[0m N seconds' "$(terminal svstat | sed -n 's|.*/both: *||p')"
+  rm all/both/down
+  "$program" svc -u all/both && "$program" wait -u -t 60 all/both
+fi
+is 'json of all' 7 "$(cd work && "$program" svstat --json | grep -c '"path"')"
+is 'json of all with loggers' 9 "$(cd work && "$program" svstat -l --json | grep -c '"path"')"
+is 'metrics of all' 7 "$(cd work && "$program" svstat --metrics | grep -c '^dtools_service_supervised')"
+is 'page of all' 7 "$(cd work && "$program" svstat --html | grep -c '^<tr><th scope="row">')"
+is 'page of all with loggers' 9 "$(cd work && "$program" svstat -l --html | grep -c '^<tr><th scope="row">')"
 ended 'with another word: no list' 0 "-l: supervise not running
 web: up (pid N) N seconds" "svstat: -l: $none" svstat -l web
 ended 'another command: no list' 100 '' '' svok

@@ -36,7 +36,7 @@ fn read_last<K: Evidence>(sources: &K, folder: &str, look: &Look) -> Option<Exit
 }
 
 /// Looks at the service in a folder. If its status was read, reads its counts and its last end too.
-pub(crate) fn find_one<'a, S: Services, F: CountFiles, K: Evidence, C: TimeSource>(
+pub fn find_one<'a, S: Services, F: CountFiles, K: Evidence, C: TimeSource>(
     observer: &mut Observer<S, C>,
     counts: &F,
     sources: &K,

@@ -17,6 +17,7 @@ mod system;
 
 pub use command::run_report;
 pub use counts::{Counts, counts_in};
+pub use find::find_one;
 pub use found::Found;
 pub use laws::{labels_read, same_words};
 pub use lines::run_json;

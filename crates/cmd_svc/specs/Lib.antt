@@ -1,5 +1,6 @@
 pub mod Words
 pub mod Line
+pub mod Listed
 pub mod Paths
 pub mod Calls
 pub mod Process

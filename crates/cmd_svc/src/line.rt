@@ -53,7 +53,7 @@ pub fn stat_line<A: Allocator>(
 }
 
 /// Returns whether a service runs.
-pub(crate) fn is_running(view: &View) -> bool
+pub fn is_running(view: &View) -> bool
     ensures { result ≡ is_running view.now }
 {
     view.pid >= 1

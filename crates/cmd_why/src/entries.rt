@@ -22,7 +22,7 @@ pub enum Kind {
 }
 
 /// Returns whether a control byte sends a signal to a running process.
-pub(crate) fn is_signal(byte: u8) -> bool
+pub fn is_signal(byte: u8) -> bool
     ensures { result ≡ is_signal byte }
 {
     signal_of(byte).is_some()

@@ -60,7 +60,7 @@ pub struct Facts {
 }
 
 /// Returns the nanoseconds since the beginning of labels.
-pub(crate) fn nanos(label: &Label) -> u128
+pub fn nanos(label: &Label) -> u128
     ensures value { result ≡ nanos label.now }
     ensures bound { result < 2 ^ 100 }
 {
@@ -254,7 +254,7 @@ fn is_failure(attempt: Option<Event>) -> bool
 }
 
 /// Returns whether a trace leads to the process that a record names.
-pub(crate) fn leads_to<A: Allocator>(content: &TraceText<A>, status: &View) -> bool
+pub fn leads_to<A: Allocator>(content: &TraceText<A>, status: &View) -> bool
     ensures { result ≡ leads_to content.now status.now }
 {
     let view = replay(content).view();

@@ -5,6 +5,7 @@ ghost use Rattle.sup_core.specs.Rules.{IsEvent};
 ghost use Rattle.cmd_why.specs.Facts.{nanos};
 ghost use Rattle.cmd_why.specs.Timeline.{alone, bar, bar_of, behind, edge, ended_with, has_part, label_in, left_end};
 ghost use Rattle.cmd_why.specs.Timeline.{moment, same, shown_before, shown_in, shown_of, sign, stands, stretches};
+ghost use Rattle.cmd_why.specs.Timeline.{stretches_of};
 ghost use Rattle.cmd_why.specs.Timeline.{tail, throughout, width};
 
 use crate::facts::nanos;
@@ -293,6 +294,27 @@ pub(crate) fn left_end<A: Allocator>(content: &TraceText<A>, now: &Label) -> Lab
     }
 }
 
+/// Returns the stretches of a trace up to a clock reading, from the left end of its picture on.
+pub fn stretches_of<A: Allocator, B: Allocator>(
+    alloc: A,
+    content: &TraceText<B>,
+    leads: bool,
+    now: &Label,
+) -> Result<Vec<Stretch, A>, AllocError>
+    ensures { IfOk result (λ drawn. drawn.items
+        ≡ stretches_of content.now leads (nanos (left_end content.now now.now)) (nanos now.now)) }
+{
+    let from = nanos(&left_end(content, now));
+    let until = nanos(now);
+    let base = content.base();
+    let last = Stretch {
+        from,
+        to: from + width(from, until),
+        shown: shown_before(&base.view()),
+    };
+    stretches(alloc, until, leads, base, last, content.entries())
+}
+
 /// Returns the picture of a trace at a clock reading. It covers the time from the label of the machine before its
 /// entries to that reading, in columns of equal width. Each column has the sign for the state throughout its time:
 ///
@@ -315,14 +337,7 @@ pub fn bar_of<A: Allocator, B: Allocator>(
     ensures { IfOk result (λ bar. bar.bytes ≡ bar_of content.now leads now.now) }
 {
     let from = nanos(&left_end(content, now));
-    let until = nanos(now);
-    let width = width(from, until);
-    let base = content.base();
-    let last = Stretch {
-        from,
-        to: from + width,
-        shown: shown_before(&base.view()),
-    };
-    let drawn = stretches(alloc, until, leads, base, last, content.entries())?;
+    let width = width(from, nanos(now));
+    let drawn = stretches_of(alloc, content, leads, now)?;
     Ok(bar(from, width, &drawn))
 }

@@ -66,7 +66,7 @@ fn reach_service<S: Services, K: Evidence>(services: &mut S, sources: &K, folder
 }
 
 /// Returns the trace of the service in a folder, if there is a readable one.
-fn read_content<A: Allocator + Clone, K: Evidence>(
+pub fn read_content<A: Allocator + Clone, K: Evidence>(
     alloc: &A,
     sources: &K,
     folder: &str,

@@ -20,7 +20,7 @@ use Rattle.cmd_multilog.specs.Ends.{stage, MultilogEnds}
 use Rattle.cmd_svc.specs.Sight.{Sight}
 use Rattle.cmd_svc.specs.Svc.{effects, SvcEnds}
 use Rattle.cmd_svc.specs.Svok.{SvokEnds}
-use Rattle.cmd_report.specs.Ends.{ReportEnds}
+use Rattle.cmd_page.specs.Ends.{ViewEnds}
 use Rattle.cmd_report.specs.Finds.{Files}
 use Rattle.cmd_why.specs.Texts.{Knowledge}
 use Rattle.cmd_why.specs.Why.{WhyEnds}
@@ -81,7 +81,7 @@ abbrev pub ServiceEnds : Command → (words : List (List ℕ)) (status : ℕ) (f
 ServiceEnds command.Svc words status files old new =
     SvcEnds words status (effects old.sight.calls old.console.faults) (effects new.sight.calls new.console.faults)
 ServiceEnds command.Svstat words status files old new =
-    ReportEnds files words status old.sight new.sight old.console.writer new.console.writer old.console.faults
+    ViewEnds files words status old.sight new.sight old.console.writer new.console.writer old.console.faults
     new.console.faults
 ServiceEnds command.Svok words status files old new =
     SvokEnds words status old.sight.calls new.sight.calls × (new.console ≡ old.console)

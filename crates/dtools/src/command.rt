@@ -17,7 +17,8 @@ use cmd_filters::{run_readproctitle, run_tai64n};
 use cmd_help::{run_help, run_version};
 use cmd_local::{Zone, run_tai64nlocal};
 use cmd_multilog::{FolderStore, LogSystem, run_multilog};
-use cmd_report::{CountFiles, run_report};
+use cmd_page::run_view;
+use cmd_report::CountFiles;
 use cmd_sim::run_sim;
 use cmd_svc::{Services, run_svc, run_svok};
 use cmd_svscan::{ServiceSet, run_svscan};
@@ -105,7 +106,7 @@ where
                 files: rt,
                 times: zone,
             };
-            return run_report(rt.alloc(), observer, rt, &evidence, words, writer, faults);
+            return run_view(rt.alloc(), observer, rt, &evidence, words, writer, faults);
         }
         Command::Svok => return run_svok(&mut observer.services, words),
         Command::Why => {

@@ -15,7 +15,7 @@ use cmd_local::{LocalZone, system_zone};
 use cmd_multilog::{
     FolderStore, LineClock, LineLabels, Stoppable, SystemInput, SystemLogs, stop_channel,
 };
-use cmd_svc::{Observer, Services, SystemServices};
+use cmd_svc::{ListedLine, Observer, Services, SystemServices, is_colored, run_svstat_as, widest};
 use cmd_svscan::{FolderServices, Reply, Request, ServiceSet, SystemHost, handle};
 use cmd_wait::SystemPace;
 use command::run;
@@ -23,7 +23,8 @@ use devices::Devices;
 use mlog_core::PartedInput;
 use std::alloc::AllocError;
 use std::env;
-use std::io::{Read, Write};
+use std::env::{Env, FillError};
+use std::io::{IsTerminal, Read, Write};
 use std::process::ExitCode;
 use std::sync::Wait;
 use tai_status::{Counted, Output, TimeSource};
@@ -84,20 +85,48 @@ where
     C: TimeSource,
     requires { P.ready service_set.old }
 {
-    let texts = match listed_words(rt) {
-        Ok(texts) => texts,
+    let program = match listed_words(rt) {
+        Ok(program) => program,
         Err(fault) => return refuse_words(&fault, &mut devices.faults),
     };
     let mut words = Vec::new(rt.alloc());
-    for text in &texts {
+    for text in &program.words {
         if words.push(text.as_str()).is_err() {
             return refuse_words(&WordsFault::OutOfMemory, &mut devices.faults);
+        }
+    }
+    if program.is_list {
+        if let [_, services @ ..] = &words[..] {
+            return show_list(rt, services, devices);
         }
     }
     match page_asked(&words) {
         Some(name) => run_words(rt, waiting, lines, service_set, &["help", name], devices),
         None => run_words(rt, waiting, lines, service_set, &words, devices),
     }
+}
+
+/// Shows all services of a folder, for people: with the states in one column, and in color on a terminal.
+fn show_list<D: Read, W: Write, E: Write, S: Services, C: TimeSource>(
+    rt: &HostRuntime,
+    services: &[&str],
+    devices: &mut Devices<D, W, E, S, C>,
+) -> u8 {
+    let unset = matches!(
+        rt.var("NO_COLOR", &mut [0; 8]),
+        Ok(0) | Err(FillError::NotPresent)
+    );
+    let form = ListedLine {
+        width: widest(services),
+        colored: is_colored(rt.stdout().is_terminal(), unset),
+    };
+    let Devices {
+        writer,
+        faults,
+        observer,
+        ..
+    } = devices;
+    run_svstat_as(&form, rt.alloc(), observer, services, writer, faults)
 }
 
 /// Runs these words.
@@ -146,6 +175,7 @@ where
 fn zone_for(rt: &HostRuntime, words: &[&str]) -> Result<LocalZone, AllocError> {
     match words {
         ["tai64nlocal" | "why", ..] => system_zone(rt),
+        ["svstat", "--html", ..] => system_zone(rt),
         ["trace", words @ ..] if words.iter().any(|word| *word == "--local") => system_zone(rt),
         _ => Ok(LocalZone::Utc),
     }

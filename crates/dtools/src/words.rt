@@ -53,38 +53,94 @@ fn program_words(rt: &HostRuntime) -> Result<Vec<String>, WordsFault> {
     Ok(words)
 }
 
-/// Returns the words of the program. If they name `svstat` and no service, and there is a folder of services, words that
-/// name all of these are added, and with `-l` their loggers too.
+/// The words of the program.
+#[derive(Debug, Drop)]
+pub(crate) struct ProgramWords {
+    pub(crate) words: Vec<String>,
+    /// Whether they name all services, which nobody named, for lines that people read.
+    pub(crate) is_list: bool,
+}
+
+/// Returns the words of the program. If they name `svstat` and no service, and there is a folder of services, words
+/// that name all of these are added, and with `-l` their loggers too.
 ///
 /// It is not inlined, so that its paths are not on the stack while a command runs.
 #[inline(never)]
-pub(crate) fn listed_words(rt: &HostRuntime) -> Result<Vec<String>, WordsFault> {
+pub(crate) fn listed_words(rt: &HostRuntime) -> Result<ProgramWords, WordsFault> {
     let words = program_words(rt)?;
-    let Some(with_loggers) = lists_services(&words) else {
-        return Ok(words);
+    let Some(listing) = listing_in(&words) else {
+        return Ok(as_given(words));
     };
-    match service_words(rt, &rt.alloc(), with_loggers) {
-        Ok(None) => Ok(words),
-        Ok(Some(services)) => svstat_of(rt, services),
+    match service_words(rt, &rt.alloc(), listing.with_loggers) {
+        Ok(None) => Ok(as_given(words)),
+        Ok(Some(services)) => Ok(ProgramWords {
+            words: svstat_of(rt, listing.form, services)?,
+            is_list: listing.form.is_none(),
+        }),
         Err(fault) if fault.kind() == ErrorKind::OutOfMemory => Err(WordsFault::OutOfMemory),
         Err(fault) => Err(WordsFault::NoList(Cause::of(&fault))),
     }
 }
 
-/// Returns whether words ask for all services with their loggers, or without them. Returns None if they do not ask for
-/// all services.
-fn lists_services(words: &[String]) -> Option<bool> {
-    match words {
-        [command] if command.as_str() == "svstat" => Some(false),
-        [command, option] if command.as_str() == "svstat" && option.as_str() == "-l" => Some(true),
+/// Returns words as they were given.
+fn as_given(words: Vec<String>) -> ProgramWords {
+    ProgramWords {
+        words,
+        is_list: false,
+    }
+}
+
+/// What is asked about all services.
+#[derive(Clone, Copy, Debug)]
+struct Listing {
+    /// Whether their loggers are asked about too.
+    with_loggers: bool,
+    /// The word that names a form of the report, if there is one.
+    form: Option<&'static str>,
+}
+
+/// Returns what words ask about all services. Returns None if they do not ask for all services.
+fn listing_in(words: &[String]) -> Option<Listing> {
+    let (with_loggers, form) = match words {
+        [command] if command.as_str() == "svstat" => (false, None),
+        [command, word] if command.as_str() == "svstat" => option_in(word.as_str())?,
+        [command, option, word] if command.as_str() == "svstat" && option.as_str() == "-l" => {
+            (true, Some(form_in(word.as_str())?))
+        }
+        _ => return None,
+    };
+    Some(Listing { with_loggers, form })
+}
+
+/// Returns what a single word after `svstat` asks for, if it is no service: the loggers too, or a form.
+fn option_in(word: &str) -> Option<(bool, Option<&'static str>)> {
+    match word {
+        "-l" => Some((true, None)),
+        word => Some((false, Some(form_in(word)?))),
+    }
+}
+
+/// Returns the form that a word names.
+fn form_in(word: &str) -> Option<&'static str> {
+    match word {
+        "--json" => Some("--json"),
+        "--metrics" => Some("--metrics"),
+        "--html" => Some("--html"),
         _ => None,
     }
 }
 
-/// Returns the words for `svstat` of services.
-fn svstat_of(rt: &HostRuntime, services: Vec<String>) -> Result<Vec<String>, WordsFault> {
+/// Returns the words for `svstat` of services, in a form if there is one.
+fn svstat_of(
+    rt: &HostRuntime,
+    form: Option<&'static str>,
+    services: Vec<String>,
+) -> Result<Vec<String>, WordsFault> {
     let mut words = Vec::new(rt.alloc());
     push_word(&mut words, String::from_str(rt.alloc(), "svstat")?)?;
+    if let Some(form) = form {
+        push_word(&mut words, String::from_str(rt.alloc(), form)?)?;
+    }
     for service in services {
         push_word(&mut words, service)?;
     }
