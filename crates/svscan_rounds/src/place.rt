@@ -1,0 +1,32 @@
+//! Where the one service of `supervise` is.
+ghost use Rattle.std.specs.Prelude.{◌≡◌, true};
+ghost use Rattle.scan_table.specs.Slots.{is_service_name};
+ghost use Rattle.svscan_rounds.specs.Places.{LeadsTo};
+
+use crate::needed::is_service_name;
+
+/// The folder in which a service is, and its name there.
+#[derive(Clone, Copy, Debug)]
+pub struct ServicePlace<'a> {
+    pub folder: &'a str,
+    pub name: &'a str,
+}
+
+/// Returns where the service in the folder at a path is. Its name is one that a service may have, whatever the path.
+pub fn place_of<'a>(dir: &'a str) -> ServicePlace<'a>
+    ensures leads { LeadsTo dir.now result.folder.now result.name.now }
+    ensures name { is_service_name result.name.now ≡ true }
+{
+    match dir.rsplit_once('/') {
+        Some(("", name)) if is_service_name(name) => ServicePlace { folder: "/", name },
+        Some((folder, name)) if is_service_name(name) => ServicePlace { folder, name },
+        None if is_service_name(dir) => ServicePlace {
+            folder: ".",
+            name: dir,
+        },
+        _ => ServicePlace {
+            folder: dir,
+            name: "/",
+        },
+    }
+}
