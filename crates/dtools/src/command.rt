@@ -20,7 +20,7 @@ use cmd_multilog::{FolderStore, LogSystem, run_multilog};
 use cmd_report::{CountFiles, run_report};
 use cmd_sim::run_sim;
 use cmd_svc::{Services, run_svc, run_svok};
-use cmd_svscan::{ServiceSet, run_svscan};
+use cmd_svscan::{ServiceSet, run_supervise, run_svscan};
 use cmd_trace::run_trace;
 use cmd_wait::{Pace, run_restart, run_wait};
 use cmd_why::{LocalTimes, ServiceEvidence, ServiceFiles, run_why};
@@ -123,7 +123,8 @@ where
             let services = &mut observer.services;
             return run_restart(waiting, rt.alloc(), services, pace, words, faults);
         }
-        Command::Svscan | Command::Supervise => return run_svscan(waiting, service_set, words, faults),
+        Command::Svscan => return run_svscan(waiting, service_set, words, faults),
+        Command::Supervise => return run_supervise(waiting, service_set, words, faults),
         Command::Envdir => return run_envdir(rt, launcher, rt.alloc(), words, writer, faults),
         Command::Trace => return run_trace(rt, rt.alloc(), zone, words, writer, faults),
         Command::Help => return run_help(words, writer, faults),
