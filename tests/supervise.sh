@@ -199,7 +199,7 @@ down() {
   is 'down' 'd/web: down N seconds' "$(stat_line d/web)"
   so 'it was not started' not test -e d/web/starts
   svc -u d/web
-  soon 'u' 3 is_up d/web
+  soon 'u' 4 is_settled d/web
   ends_by 'dx' -dx d/web
   start supervise reported d/web
   soon 'again: served' 5 is_served d/web
@@ -298,10 +298,11 @@ bare() {
   soon 'reported' 5 holds '^svscan: web: unable to run ./run: No such file or directory$' reported
   soon 'reported again' 5 has_lines 2 reported
   so 'supervise goes on' lives "$started"
-  { echo '#!/bin/sh'; echo 'exec sleep 1000'; } >d/web/.run
+  { echo '#!/bin/sh'; echo 'touch started'; echo 'exec sleep 1000'; } >d/web/.run
   chmod 755 d/web/.run
   mv d/web/.run d/web/run
-  soon 'it starts once there is one' 5 is_settled d/web
+  soon 'it starts once there is one' 5 test -e d/web/started
+  soon 'it is up' 5 is_settled d/web
   ends_by 'dx' -dx d/web
 }
 
@@ -314,20 +315,20 @@ paths() {
   for path in d/web d/web/ "$room/$scenario/d/web" ./d/web d//web d/.hidden d/../d/web ... d/web/.; do
     rm -f "$path/starts"
     start supervise reported "$path"
-    soon "$path: up" 5 is_up "$path"
+    soon "$path: up" 5 is_settled "$path"
     soon "$path: started" 3 has_lines 1 "$path/starts"
     ends_by "$path" -dx "$path"
   done
   rm d/web/starts
   cd d/web || return
   start supervise ../../reported .
-  soon '.: up' 5 is_up .
+  soon '.: up' 5 is_settled .
   soon '.: started' 3 has_lines 1 starts
   ends_by . -dx .
   cd ../.. || return
   ln -s d/web linked
   start supervise reported linked
-  soon 'a link: up' 5 is_up d/web
+  soon 'a link: up' 5 is_settled d/web
   ended 'its folder' 111 'supervise: unable to lock d/web' d/web
   ends_by 'a link' -dx d/web
   is 'nothing is said' '' "$(cat reported)"

@@ -4,7 +4,7 @@ use Rattle.scan_table.specs.Slots.{Row, is_service_name}
 use Rattle.scan_table.specs.Whole.{is_whole}
 use Rattle.scan_table.specs.declared.fault.ScanFault.{ScanFault}
 use Rattle.scan_table.specs.declared.part.PartId.{PartId}
-use Rattle.tai_status.specs.declared.cause.Cause.TheVariants.{NoMemory}
+use Rattle.tai_status.specs.declared.cause.Cause.TheVariants.{Missing, NoMemory}
 use Rattle.svc_host.specs.Calls.{AdmittedAll, AskedRefusals}
 use Rattle.svc_host.specs.Parts.{losses_in, no_loss, running_ids}
 use Rattle.svc_host.specs.Rounds.{HostState}
@@ -58,10 +58,12 @@ pub record ScansOne (dir : List ℕ) (old : HostState) (supervision : Supervisio
   pub scans : Scans folder old (lone_row name down ∷ []) answer new
   pub supervision_is : supervision ≡ supervision_after (is_whole new.table.slots name) answer
 
--- The service in DIR was begun, or nothing was done for lack of memory.
+-- The service in DIR was begun. Or nothing was done: for lack of memory, or since DIR is empty and leads nowhere.
 abbrev pub BeginsOne : (dir : List ℕ) (old : HostState) (supervision : Supervision) (new : HostState) → Type 0
 BeginsOne dir old supervision new =
-    ((supervision ≡ Unmade no_memory) × (new ≡ old)) ⊎ ScansOne dir old supervision new
+    ((supervision ≡ Unmade no_memory) × (new ≡ old))
+    ⊎ ((dir ≡ []) × (supervision ≡ Unmade (Refused Missing)) × (new ≡ old))
+    ⊎ ScansOne dir old supervision new
 
 abbrev pub IsUnmade : Supervision → Type 0
 IsUnmade (Kept fault) = ⊥

@@ -84,7 +84,9 @@ where
     R: Files + Runtime,
     ensures { BeginsOne dir.now host.old result host.new }
 {
-    let ServicePlace { folder, name } = place_of(dir);
+    let Some(ServicePlace { folder, name }) = place_of(dir) else {
+        return Supervision::Unmade(PartFault::Refused(Cause::Missing));
+    };
     let Ok(row) = row_at(&rt, alloc, dir, name) else {
         return Supervision::Unmade(PartFault::Refused(Cause::NoMemory));
     };

@@ -1,5 +1,5 @@
 //! Where the one service of `supervise` is.
-ghost use Rattle.std.specs.Prelude.{◌≡◌, true};
+ghost use Rattle.std.specs.Prelude.{◌≡◌, [], IfSome, MatchOption, ⊤, true};
 ghost use Rattle.scan_table.specs.Slots.{is_service_name};
 ghost use Rattle.svscan_rounds.specs.Places.{LeadsTo};
 
@@ -12,8 +12,21 @@ pub struct ServicePlace<'a> {
     pub name: &'a str,
 }
 
-/// Returns where the service in the folder at a path is. Its name is one that a service may have, whatever the path.
-pub fn place_of<'a>(dir: &'a str) -> ServicePlace<'a>
+/// Returns where the service in the folder at a path is, unless the path is empty. Its name is one that a service may
+/// have, whatever the path.
+pub fn place_of<'a>(dir: &'a str) -> Option<ServicePlace<'a>>
+    ensures nowhere { MatchOption result (dir.now ≡ []) (λ _. ⊤) }
+    ensures leads { IfSome result (λ place. LeadsTo dir.now place.folder.now place.name.now) }
+    ensures name { IfSome result (λ place. is_service_name place.name.now ≡ true) }
+{
+    if dir.is_empty() {
+        return None;
+    }
+    Some(cut(dir))
+}
+
+/// Cuts a path at its last slash, if what is after it is a name that a service may have.
+fn cut<'a>(dir: &'a str) -> ServicePlace<'a>
     ensures leads { LeadsTo dir.now result.folder.now result.name.now }
     ensures name { is_service_name result.name.now ≡ true }
 {
