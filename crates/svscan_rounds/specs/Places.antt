@@ -1,4 +1,4 @@
--- Where the one service of supervise is: a folder, and a name in it that a service may have.
+-- The place of the one service of supervise: a folder, and a name in it that a service may have.
 use Rattle.std.specs.Prelude.{◌≡◌, ◌⊎◌, ℕ, List, ◌∷◌, ◌++◌, codes}
 
 -- The path that consists of the folder, a slash and the name leads to the service in DIR. The two are DIR cut at its last

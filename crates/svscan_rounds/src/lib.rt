@@ -5,8 +5,7 @@
 //! the services of rows. [`needed_names`] says which names a scan needs, [`Quiet`] when a round is idle, and
 //! [`is_unchanged`] when a folder has the same names as before. [`rest_left`] says how much of a rest is left.
 //!
-//! [`run_supervise`] keeps one service running, over the same set. [`place_of`] says in which folder and by which name
-//! that service is.
+//! [`run_supervise`] keeps one service running, over the same set. [`place_of`] returns its folder and its name there.
 #![tactic(auto)]
 
 mod descriptors;

@@ -1,4 +1,4 @@
-//! Where the one service of `supervise` is.
+//! The place of the one service of `supervise`.
 ghost use Rattle.std.specs.Prelude.{◌≡◌, [], IfSome, MatchOption, ⊤, true};
 ghost use Rattle.scan_table.specs.Slots.{is_service_name};
 ghost use Rattle.svscan_rounds.specs.Places.{LeadsTo};
@@ -12,8 +12,8 @@ pub struct ServicePlace<'a> {
     pub name: &'a str,
 }
 
-/// Returns where the service in the folder at a path is, unless the path is empty. Its name is one that a service may
-/// have, whatever the path.
+/// Returns the place of the service in the folder at a path, unless the path is empty. Its name is one that a service
+/// may have, whatever the path.
 pub fn place_of<'a>(dir: &'a str) -> Option<ServicePlace<'a>>
     ensures nowhere { MatchOption result (dir.now ≡ []) (λ _. ⊤) }
     ensures leads { IfSome result (λ place. LeadsTo dir.now place.folder.now place.name.now) }
