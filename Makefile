@@ -15,7 +15,7 @@ DESTDIR ?=
 NAMES ?=
 JOBS ?=
 PROGRAM ?= crates/dtools/out/dtools
-COMMANDS = svscan svc svstat svok svwait svrestart tai64n tai64nlocal readproctitle
+COMMANDS = svscan supervise svc svstat svok svwait svrestart tai64n tai64nlocal readproctitle
 # Scripts with a text of their own: multilog and envdir over the program, the others over tools of the system.
 SCRIPTS = multilog envdir setuidgid envuidgid softlimit setlock pgrphack fghack
 # Scripts that no other suite has a name of.

@@ -18,7 +18,7 @@ _dtools() {
   local word=${COMP_WORDS[COMP_CWORD]} before=${COMP_WORDS[COMP_CWORD - 1]} command=${COMP_WORDS[0]##*/}
   if [ "$command" = dtools ]; then
     if [ "$COMP_CWORD" = 1 ]; then
-      mapfile -t COMPREPLY < <(compgen -W 'svscan svc svstat svok wait restart multilog tai64n tai64nlocal envdir readproctitle sim trace why help version' -- "$word")
+      mapfile -t COMPREPLY < <(compgen -W 'svscan supervise svc svstat svok wait restart multilog tai64n tai64nlocal envdir readproctitle sim trace why help version' -- "$word")
       return
     fi
     command=${COMP_WORDS[1]}
@@ -31,8 +31,8 @@ _dtools() {
     restart:-* | svrestart:-*) mapfile -t COMPREPLY < <(compgen -W '-t' -- "$word") ;;
     wait:*:-t | svwait:*:-t | restart:*:-t | svrestart:*:-t) ;;
     svc:* | svstat:* | svok:* | why:* | wait:* | svwait:* | restart:* | svrestart:*) _dtools_services ;;
-    svscan:*) mapfile -t COMPREPLY < <(compgen -d -- "$word") ;;
-    help:*) mapfile -t COMPREPLY < <(compgen -W 'svscan svc svstat svok wait restart multilog tai64n tai64nlocal envdir readproctitle sim trace why svscan-run svscan-stop dtools-service setuidgid envuidgid softlimit setlock pgrphack fghack' -- "$word") ;;
+    svscan:* | supervise:*) mapfile -t COMPREPLY < <(compgen -d -- "$word") ;;
+    help:*) mapfile -t COMPREPLY < <(compgen -W 'svscan supervise svc svstat svok wait restart multilog tai64n tai64nlocal envdir readproctitle sim trace why svscan-run svscan-stop dtools-service setuidgid envuidgid softlimit setlock pgrphack fghack' -- "$word") ;;
     sim:*) mapfile -t COMPREPLY < <(compgen -W 'table' -- "$word") ;;
     trace:*:--break)
       mapfile -t COMPREPLY < <(compgen -W 'byte: phase:up phase:down phase:gone signal:TERM signal:KILL' -- "$word")

@@ -11,7 +11,7 @@ run_make() { make -s -C "$top" PROGRAM="$program" DESTDIR="$room/root" PREFIX=/u
 found() { sorted "$(cd root 2>/dev/null && find . -type f -o -type l)"; }
 # sorted PATHS: paths on one line, in byte order
 sorted() { echo $1 | tr ' ' '\n' | LC_ALL=C sort | xargs; }
-wrappers() { printf "./usr/local/$1/%s " envdir envuidgid fghack multilog pgrphack readproctitle setlock setuidgid softlimit svc svok svrestart svscan svstat svwait tai64n tai64nlocal; }
+wrappers() { printf "./usr/local/$1/%s " envdir envuidgid fghack multilog pgrphack readproctitle setlock setuidgid softlimit supervise svc svok svrestart svscan svstat svwait tai64n tai64nlocal; }
 completions=$(printf './usr/local/share/bash-completion/completions/%s ' dtools envuidgid fghack pgrphack setlock setuidgid softlimit svc svok \
   svrestart svstat svwait)
 # pages SECTION NAME..
@@ -20,7 +20,7 @@ pages() {
   shift
   printf "./usr/local/share/man/man$section/%s.$section.gz " "$@"
 }
-commands='envdir envuidgid fghack multilog pgrphack readproctitle restart service setlock setuidgid softlimit svc svok svscan svscan-run
+commands='envdir envuidgid fghack multilog pgrphack readproctitle restart service setlock setuidgid softlimit supervise svc svok svscan svscan-run
   svscan-stop svstat tai64n tai64nlocal wait'
 manual="$(pages 1 dtools dtools-sim dtools-trace dtools-why) $(pages 5 dtools-formats) $(pages 7 dtools)
   $(pages 8 $(printf 'dtools-%s ' $commands))"

@@ -64,7 +64,7 @@ for page in "$pages"/man*/*.gz; do
   rm -rf session
 done
 # Sections: these, in this order, and of the others those that apply.
-files=' envdir envuidgid multilog dtools-service setlock setuidgid svc svok svscan svscan-run svscan-stop svstat tai64nlocal trace wait restart why dtools '
+files=' envdir envuidgid multilog dtools-service setlock setuidgid supervise svc svok svscan svscan-run svscan-stop svstat tai64nlocal trace wait restart why dtools '
 # section PAGE NAME: the text of a section
 section() { awk -v name="$2" '/^\.Sh / { shows = substr($0, 5) == name; next } shows' "$1"; }
 for name in *.[18]; do
@@ -125,7 +125,7 @@ done < <({
       grep -oE '(no [a-z]+ [a-z ]+|unable to [a-z]+|unknown account|it [a-z]+ [a-z ]+|is not served in|still runs)' | sed 's/ *$//'
   done
 } | sort -u)
-for command in svscan svc svstat svok wait restart multilog tai64n tai64nlocal envdir readproctitle; do
+for command in svscan supervise svc svstat svok wait restart multilog tai64n tai64nlocal envdir readproctitle; do
   is "a page of $command" yes "$([ -e "$pages/man8/dtools-$command.8.gz" ] && echo yes)"
 done
 if command -v mandoc >/dev/null; then

@@ -437,7 +437,7 @@ wait: : No such file or directory' ''
 
 # Words.
 usage='dtools: usage
-dtools wait [-u|-d|-x|-r] [-t SECONDS] SERVICE..; u up, d down, x no longer supervised, r restarted'
+dtools wait [-u|-U|-d|-x|-r] [-t SECONDS] SERVICE..; u up, U ready, d down, x no longer supervised, r restarted'
 ended 'no words' 100 "$usage"
 ended 'no service' 100 "$usage" -u
 ended 'no service behind --' 100 "$usage" -t 1 --

@@ -4,4 +4,4 @@
 pub(crate) const KIT: &str = "rattle-kit-13f logic dac8208d650f15bf";
 
 /// The sum of its sources, as packaging/source-sum says it.
-pub(crate) const SOURCE: &str = "8555e46e09e3b9ee022ba4103e9faa6236a9942be7cc55b12928e8b25fa2ef08";
+pub(crate) const SOURCE: &str = "220d04f7369cc9999ecc6211a8ef24bc9b6e2020092beea33203010e96880de8";

@@ -10,3 +10,4 @@ pub mod Requests
 pub mod Resting
 pub mod Scanning
 pub mod Serving
+pub mod Supervising

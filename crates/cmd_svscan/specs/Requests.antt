@@ -9,13 +9,18 @@ use Rattle.svscan_rounds.specs.declared.service_set.ListFault.TheVariants as lis
 use Rattle.svscan_rounds.specs.declared.service_set.Listing.{Listing}
 use Rattle.svscan_rounds.specs.declared.service_set.Remaining.{Remaining}
 use Rattle.svscan_rounds.specs.declared.service_set.RoundOut.{RoundOut}
+use Rattle.svscan_rounds.specs.declared.service_set.Sight.{Sight}
+use Rattle.svscan_rounds.specs.declared.service_set.Sight.TheVariants.{Gone}
+use Rattle.svscan_rounds.specs.declared.service_set.Supervision.{Supervision}
 use Rattle.svscan_rounds.specs.declared.service_set.Unlogged.{Unlogged}
+use Rattle.svc_host.specs.Parts.{no_loss}
 use Rattle.cmd_svscan.specs.Beginning.{Opens, OpensAndBegins}
 use Rattle.cmd_svscan.specs.Closing.{Ends, Leaves}
 use Rattle.cmd_svscan.specs.Looking.{Lists}
 use Rattle.cmd_svscan.specs.Resting.{Hears}
 use Rattle.cmd_svscan.specs.Scanning.{Rounds}
 use Rattle.cmd_svscan.specs.Serving.{Serving}
+use Rattle.cmd_svscan.specs.Supervising.{OpensAndSupervises, Watches}
 use Rattle.cmd_svscan.specs.declared.folder_services.Request.{Request}
 use Rattle.cmd_svscan.specs.declared.folder_services.Request.TheVariants as request
 use Rattle.cmd_svscan.specs.declared.folder_services.Reply.{Reply}
@@ -57,6 +62,12 @@ LeavesIf None unlogged None = unlogged ≡ []
 LeavesIf (Some old) unlogged (Some new) = Leaves old.host unlogged new.host × (new.quiet ≡ old.quiet)
 LeavesIf old unlogged new = ⊥
 
+-- If there is no host, the one service is gone.
+abbrev pub WatchesIf : (old : Option Serving) → Sight → (new : Option Serving) → Type 0
+WatchesIf None sight None = sight ≡ Gone no_loss
+WatchesIf (Some old) sight (Some new) = Watches old.host sight new.host × (new.quiet ≡ old.quiet)
+WatchesIf old sight new = ⊥
+
 -- This was done, and the request has its own kind of reply.
 abbrev pub Serves : Request → Reply → (old new : Option Serving) → Type 0
 Serves (request.Begin folder) (reply.Begun begun) old new = OpensAndBegins (string_bytes folder) old begun new
@@ -66,6 +77,9 @@ Serves (request.Round folder rows) (reply.Round answer) old new =
 Serves request.Hear (reply.Heard byte) old new = HearsIf old byte new
 Serves request.End (reply.Ended left) old new = EndsIf old (option_map (λ some. some.items) left) new
 Serves request.Leave (reply.Left unlogged) old new = LeavesIf old unlogged.items new
+Serves (request.Supervise folder) (reply.Supervised supervision) old new =
+    OpensAndSupervises (string_bytes folder) old supervision new
+Serves request.Watch (reply.Watched sight) old new = WatchesIf old sight new
 Serves request reply old new = ⊥
 
 -- Something is served in such a way that the request has this reply.

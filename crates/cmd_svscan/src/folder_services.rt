@@ -1,7 +1,7 @@
 //! The services of a folder of this system, which are kept running.
 ghost use Rattle.std.specs.Prelude.{◌≡◌, option_map};
 ghost use Rattle.cmd_svscan.specs.Requests.{EndsIf, HearsIf, LeavesIf, ListsIf, OpensAndLists, RoundsIf};
-ghost use Rattle.cmd_svscan.specs.Requests.{Serves};
+ghost use Rattle.cmd_svscan.specs.Requests.{Serves, WatchesIf};
 
 use crate::beginning::{open, open_and_begin};
 use crate::closing::{end, leave};
@@ -9,16 +9,18 @@ use crate::looking::list;
 use crate::resting::hear;
 use crate::running::{Running, SystemHost};
 use crate::scanning::round;
+use crate::supervising::{open_and_supervise, watch};
 use scan_table::{DirRow, ScanFault};
 use std::alloc::Global;
 use std::fs::Files;
 use std::net::Net;
 use std::process::{Processes, SystemProcess};
 use std::thread;
-use svc_host::{Maker, Runtime};
+use svc_host::{Loss, Maker, PartFault, Runtime};
 use svc_maker::FolderHolder;
 use svscan_rounds::{
-    Begun, ListFault, Listing, Remaining, RoundOut, ServiceSet, Unlogged, whole_rest,
+    Begun, ListFault, Listing, Remaining, RoundOut, ServiceSet, Sight, Supervision, Unlogged,
+    whole_rest,
 };
 use tai_status::Cause;
 
@@ -37,6 +39,10 @@ pub enum Request {
     End,
     /// To leave the services.
     Leave,
+    /// To begin the one service in a folder.
+    Supervise(String),
+    /// To watch over the one service until it is gone, for at most the length of a rest.
+    Watch,
 }
 
 /// The result of a request: each request has its own kind of reply (specs/Requests).
@@ -54,6 +60,10 @@ pub enum Reply {
     Ended(Option<Vec<Remaining>>),
     /// The reply to `Leave`.
     Left(Vec<Unlogged>),
+    /// The reply to `Supervise`.
+    Supervised(Supervision),
+    /// The reply to `Watch`.
+    Watched(Sight),
 }
 
 /// Returns the next of svscan's own control bytes, or None once the next round is due.
@@ -151,6 +161,16 @@ fn try_round<M: FolderHolder + Drop, R: Runtime>(
     }
 }
 
+/// Watches over the one service, if there is a host.
+fn try_watch<M: FolderHolder + Drop, R: Runtime>(running: &mut Option<Running<M, R>>) -> Sight
+    ensures { WatchesIf running.old result running.new }
+{
+    match running {
+        Some(running) => watch(&mut running.host),
+        None => Sight::Gone(Loss::NONE),
+    }
+}
+
 /// Does what is requested. The host is made at the beginning, if it can be. Otherwise it is made at the first listing
 /// at which it can be, since memory may be lacking at the beginning.
 pub fn handle<R>(
@@ -178,6 +198,10 @@ where
         Request::Hear => Reply::Heard(hear_or_sleep(rt, running)),
         Request::End => Reply::Ended(try_end(rt, alloc, running)),
         Request::Leave => Reply::Left(try_leave(rt, alloc, running)),
+        Request::Supervise(folder) => {
+            Reply::Supervised(open_and_supervise(rt, files, alloc, running, folder.as_str()))
+        }
+        Request::Watch => Reply::Watched(try_watch(running)),
     }
 }
 
@@ -254,6 +278,23 @@ impl<F: FnMut(Request) -> Reply + Drop> ServiceSet for FolderServices<F> {
     fn leave(&mut self) -> Vec<Unlogged> {
         match (self.handle)(Request::Leave) {
             Reply::Left(unlogged) => unlogged,
+            _ => unreachable!(),
+        }
+    }
+
+    fn supervise(&mut self, folder: &str) -> Supervision {
+        let Ok(folder) = String::from_str(self.alloc, folder) else {
+            return Supervision::Unmade(PartFault::Refused(Cause::NoMemory));
+        };
+        match (self.handle)(Request::Supervise(folder)) {
+            Reply::Supervised(supervision) => supervision,
+            _ => unreachable!(),
+        }
+    }
+
+    fn watch(&mut self) -> Sight {
+        match (self.handle)(Request::Watch) {
+            Reply::Watched(sight) => sight,
             _ => unreachable!(),
         }
     }

@@ -19,7 +19,7 @@ use tai_status::TimeSource;
 
 /// Joins the threads of the parts that ended, unless nothing has happened. Parts that end from now on are left to the
 /// next round. Then keeps the traces of what runs.
-fn bring_up_to_date<M, R>(host: &mut Host<M, R>, is_quiet: bool)
+pub(crate) fn bring_up_to_date<M, R>(host: &mut Host<M, R>, is_quiet: bool)
 where
     M: Maker + Drop,
     R: Runtime,

@@ -65,7 +65,7 @@ where
 /// Makes one scan of the rows of a folder, and returns also what parts lost that ended before. That is forgotten once
 /// the scan is made. The parts that the scan begins get their sockets after all have begun, because each child copies
 /// and closes the descriptors that there are.
-fn scan<M, R>(
+pub(crate) fn scan<M, R>(
     rt: R,
     alloc: Global,
     host: &mut Host<M, R>,

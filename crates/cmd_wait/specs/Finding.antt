@@ -108,9 +108,12 @@ abbrev pub AsksReady : (asks : Bool) (folder : List ℕ) (ready : Option Moment)
 AsksReady false folder ready old new = (ready ≡ None) × (new ≡ old)
 AsksReady true folder ready old new = ReadsNotice folder notice.Ready ready old new
 
--- The results of the calls of a look. The service did not respond, for this reason; or its status could not be read, and
--- may be missing. Or these are its first bytes; this is the age of its process, if that was asked for and the process
--- lives; and this is the text in which svscan says that a process is ready, if that was read, and what it says.
+-- The results of the calls of a look:
+--
+-- - The service did not respond, for this reason.
+-- - Its status could not be read, and may be missing.
+-- - These are the first bytes of its status. This is the age of its process, if that was asked for and the process lives.
+--   This is the text in which svscan says that a process is ready, if that was read, and what it says.
 pub data Sighting : Type 0 where
   Absent : (why : Unreached) → Sighting
   Unread : (is_missing : Bool) → Sighting

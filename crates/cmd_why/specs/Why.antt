@@ -181,8 +181,8 @@ pub record ReachesNobody (k : Knowledge) (folder : List ℕ) (absence : Absence)
   pub absence_is : absence ≡ absence_of why looked
   pub asked : Extended past now (Reached folder (Some why) ∷ [])
 
--- What was asked of the service in a folder, with the results: whether it is supervised; only then its status; and only
--- if that is a record, its file `down`, and what it does that the record does not say.
+-- What was asked of the service in a folder, with the results: whether it is supervised, and only then its status. If
+-- that is a record, its file `down` was looked for, and it was sought what the service does that the record does not say.
 abbrev pub Reaches : Knowledge → (folder : List ℕ) → Reach → (past now : Option (List Call)) → Type 0
 Reaches k folder (reach.Absent absence) past now = ReachesNobody k folder absence past now
 Reaches k folder reach.Unread past now = Extended past now (Reached folder None ∷ ReadStatus folder None ∷ [])

@@ -29,6 +29,7 @@ use Rattle.cmd_wait.specs.Ends as waiting
 use Rattle.cmd_wait.specs.Restarting as restarting
 use Rattle.svscan_rounds.specs.Calls as handling
 use Rattle.svscan_rounds.specs.Rounds as svscan
+use Rattle.svscan_rounds.specs.Supervise as supervise
 
 -- What a command may use: its devices, and the services that it asks, with its clock.
 pub record Equipment : Type 0 where
@@ -106,11 +107,14 @@ PacedEnds command.Restart words status steps taken old new =
     (waiting.scene (sight new.sight.calls taken) new.console.faults)
 PacedEnds other words status steps taken old new = taken ≡ steps
 
--- Only `svscan` keeps the services of a folder running. It makes these requests for them.
+-- Only `svscan` keeps the services of a folder running, and only `supervise` one service. They make these requests for
+-- them.
 abbrev pub ScanEnds : Command → (words : List (List ℕ)) (status : ℕ) (past now : Option (List handling.Call))
     (old new : Equipment) → Type 0
 ScanEnds command.Svscan words status past now old new =
     svscan.SvscanEnds words status (svscan.effects past old.console.faults) (svscan.effects now new.console.faults)
+ScanEnds command.Supervise words status past now old new =
+    supervise.SuperviseEnds words status (svscan.effects past old.console.faults) (svscan.effects now new.console.faults)
 ScanEnds other words status past now old new = now ≡ past
 
 -- the commands that read the standard input; a logger has an input of its own
@@ -129,6 +133,7 @@ prints command.Svok = false
 prints command.Wait = false
 prints command.Restart = false
 prints command.Svscan = false
+prints command.Supervise = false
 prints other = true
 
 -- the commands that ask services

@@ -42,7 +42,7 @@ regrouped a b c d e = simp append_assoc
 grouped : (a b c d e : List ℕ) → a ++ b ++ c ++ d ++ e ≡ (a ++ b ++ c) ++ d ++ e
 grouped a b c d e = simp append_assoc
 
--- The line of an exit begins with its process and ends with its time.
+-- The line of an exit has its process at the beginning and its time at the end.
 pub marks_exit : (line : List ℕ) (exit : Exit) → line ≡ exit_text exit
     → Marks line (record { pid = exit.pid; label = exit.label })
 marks_exit line exit is =

@@ -1,4 +1,4 @@
--- Lines that begin with the number of a process and end with a time.
+-- Lines with the number of a process at the beginning and a time at the end.
 use Rattle.std.specs.Prelude.{◌≡◌, ◌<◌, ◌^◌, ℕ, List, [], ◌∷◌, ◌++◌, codes, decimal, Option, Some, IfSome}
 use Rattle.tai_status.specs.Label.{IsLabel, label_text}
 use Rattle.sup_core.specs.Reading.{fields}
@@ -13,7 +13,7 @@ pub record IsMoment (moment : Moment) : Type 0 where
   pub pid : moment.pid < 2 ^ 32
   pub label : IsLabel moment.label
 
--- The first field of a line is the number of this process, and the line ends with this time and a newline.
+-- The first field of a line is the number of this process, and this time and a newline are at its end.
 pub record Marks (line : List ℕ) (moment : Moment) : Type 0 where
   pub rest : List (List ℕ)
   pub begins : fields line ≡ decimal moment.pid ∷ rest

@@ -1,4 +1,4 @@
-//! A line that begins with the number of a process and ends with a time.
+//! A line with the number of a process at the beginning and a time at the end.
 ghost use Rattle.std.specs.Prelude.{◌≡◌, ◌<◌, ◌^◌, ◌++◌, ◌∷◌, [], ℕ, List, decimal, length, option_copied, true, is_none};
 ghost use Rattle.std.specs.Prelude.{Some, IfSome};
 ghost use Rattle.sup_core.specs.Reading.{fields};
@@ -34,7 +34,7 @@ pub fn moment_text(moment: &Moment) -> ExitText
     out
 }
 
-/// Returns the process number with which a line begins.
+/// Returns the process number at the beginning of a line.
 fn first_pid(line: &[u8]) -> Option<u32>
     ensures found { IfSome result (λ pid. (rest : List (List ℕ)) × (fields line.now ≡ decimal pid ∷ rest)) }
     ensures only { (pid : ℕ) → pid < 2 ^ 32 → (rest : List (List ℕ)) → fields line.now ≡ decimal pid ∷ rest
@@ -64,7 +64,7 @@ fn last_bytes(text: &[u8]) -> Option<&[u8]>
     Some(text.split_at(at).1)
 }
 
-/// Returns the time with which a line ends.
+/// Returns the time at the end of a line.
 fn last_label(line: &[u8]) -> Option<Label>
     ensures found { IfSome result (λ label. (front : List ℕ) × (line.now ≡ front ++ label_text label ++ 10 ∷ [])) }
     ensures only { (label : Tai64n) → IsLabel label → (front : List ℕ)
@@ -73,8 +73,8 @@ fn last_label(line: &[u8]) -> Option<Label>
     read_label(last_bytes(before_newline(line)?)?)
 }
 
-/// Returns which process and which time a line says: it begins with the number of the process and a space, and ends
-/// with the time and a newline. Returns None for any other text.
+/// Returns which process and which time a line says: the number of the process is its first field, and the time and a
+/// newline are at its end. Returns None for any other text.
 pub fn moment_in(line: &[u8]) -> Option<Moment>
     ensures { IsMomentIn line.now result }
 {

@@ -58,7 +58,7 @@ enum DeathSource {
     Process(AdoptedProcess),
 }
 
-/// Where the word of a service's process is found that it is ready.
+/// The source of the word of a service's process that it is ready.
 #[derive(Drop)]
 enum ReadySource {
     /// Nobody listens.
@@ -298,7 +298,7 @@ where
         self.shared.adoptions.add(&self.runtime, process, notifier)
     }
 
-    // Returns where the word of an adopted process is found that it is ready.
+    // Returns the source of the word of an adopted process that it is ready.
     fn ready_of(&self, pid: u32) -> ReadySource {
         if let Some(label) = self.folder.ready_since(pid) {
             return ReadySource::Known(label);
@@ -369,7 +369,7 @@ where
         Some(number)
     }
 
-    // Forgets where the word of the last process was to be found.
+    // Forgets the source of the word of the last process.
     fn ignore_ready(&mut self) {
         if let ReadySource::Slot(_, number) = &self.ready {
             self.shared.adoptions.ignore(&self.runtime, *number);

@@ -43,8 +43,8 @@ const LINGERING_REST: u64 = 3;
 ///
 /// If a child says that it is ready, that is written while it lives.
 ///
-/// If five children end within a minute and nobody asked them to, and the service says so in its folder, the last of
-/// these deaths is reported after a wait, so that the next start waits. A new status record ends the wait.
+/// The next start waits if five children end within a minute, nobody asked them to, and the service says so in its
+/// folder. The last of these deaths is reported after the wait. A new status record ends the wait.
 #[derive(Drop)]
 pub struct ChildWorld<C: ChildSystem + Drop> {
     system: C,

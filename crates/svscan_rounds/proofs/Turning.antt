@@ -34,7 +34,7 @@ pub record IsUnderWay (folder : List ℕ) (limit left : Option ℕ) (is_listed :
   pub listed_is : is_listed ≡ listed_along true turns
   pub left_is : IsLeft limit left (length turns)
 
-flat_map-push : {X A : Type 0} (f : X → List A) (xs : List X) (x : X) → flat_map f (xs ++ x ∷ []) ≡ flat_map f xs ++ f x
+pub flat_map-push : {X A : Type 0} (f : X → List A) (xs : List X) (x : X) → flat_map f (xs ++ x ∷ []) ≡ flat_map f xs ++ f x
 flat_map-push f xs x = flat_map-append f xs (x ∷ []) ∙ ap (λ l. flat_map f xs ++ l) (append-nil (f x))
 
 -- the lines of one more turn

@@ -1,4 +1,4 @@
--- What svscan asks of the services of a folder, and the results.
+-- What svscan asks of the services of a folder, and supervise of one service, and the results.
 use Rattle.std.specs.Prelude.{ℕ, List, Option, Result}
 use Rattle.scan_table.specs.Slots.{Row}
 use Rattle.scan_table.specs.declared.fault.ScanFault.{ScanFault}
@@ -7,6 +7,8 @@ use Rattle.svscan_rounds.specs.declared.service_set.ListFault.{ListFault}
 use Rattle.svscan_rounds.specs.declared.service_set.Listing.{Listing}
 use Rattle.svscan_rounds.specs.declared.service_set.Remaining.{Remaining}
 use Rattle.svscan_rounds.specs.declared.service_set.RoundOut.{RoundOut}
+use Rattle.svscan_rounds.specs.declared.service_set.Sight.{Sight}
+use Rattle.svscan_rounds.specs.declared.service_set.Supervision.{Supervision}
 use Rattle.svscan_rounds.specs.declared.service_set.Unlogged.{Unlogged}
 
 -- A call, with its result. The calls, in the order of the constructors:
@@ -17,6 +19,8 @@ use Rattle.svscan_rounds.specs.declared.service_set.Unlogged.{Unlogged}
 -- - This control byte of svscan's own came, or none until the next round was due.
 -- - The end of all services continued, and after five seconds these still ran, or all had ended.
 -- - svscan left the services, and this was not logged.
+-- - The one service in the folder was begun.
+-- - The one service was watched over.
 pub data Call : Type 0 where
   Began : (folder : List ℕ) → (begun : Begun) → Call
   Listed : (folder : List ℕ) → (found : Result Listing ListFault) → Call
@@ -24,3 +28,5 @@ pub data Call : Type 0 where
   Heard : (byte : Option ℕ) → Call
   Ended : (left : Option (List Remaining)) → Call
   Left : (unlogged : List Unlogged) → Call
+  Supervised : (folder : List ℕ) → (supervision : Supervision) → Call
+  Watched : (sight : Sight) → Call

@@ -3,8 +3,10 @@ pub mod Descriptors
 pub mod FolderStates
 pub mod Needed
 pub mod Orders
+pub mod Places
 pub mod Quiet
 pub mod Resting
 pub mod Rounds
 pub mod Rows
+pub mod Supervise
 pub mod Words

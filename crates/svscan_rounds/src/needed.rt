@@ -11,7 +11,7 @@ use std::time::Clock;
 use svc_host::{Host, Maker};
 
 /// Returns whether a service may have this name: it is not empty, and does not begin with a dot.
-fn is_service_name(name: &str) -> bool
+pub(crate) fn is_service_name(name: &str) -> bool
     ensures { result ≡ is_service_name name.now }
 {
     !matches!(name.as_bytes(), [] | [b'.', ..])

@@ -50,7 +50,7 @@ fn report_names<E: Write>(names: &[Name], what: &[u8], faults: &mut Output<E>)
 }
 
 /// Returns what is reported about this many control bytes, after a part's name.
-fn not_taken(count: u64) -> ArrayString<64>
+pub(crate) fn not_taken(count: u64) -> ArrayString<64>
     ensures { result.bytes ≡ not_taken count }
 {
     let mut text = ArrayString::new();

@@ -1,6 +1,6 @@
 //! The services of a folder.
 use scan_table::{DirRow, ScanFault};
-use svc_host::PartFault;
+use svc_host::{Loss, PartFault};
 use tai_status::{Cause, Name, Names};
 
 /// The services of a folder need more descriptors than are allowed.
@@ -103,11 +103,29 @@ pub struct Unlogged {
     pub what: Unfinished,
 }
 
-/// The services of a folder, which it keeps running. Contracts see which calls were made and their results, while these
-/// are recorded.
+/// What came of the begin of one service.
+#[derive(Clone, Copy, Debug, PartialEq, Eq)]
+pub enum Supervision {
+    /// It is kept running. Present: why it has no sockets yet.
+    Kept(Option<PartFault>),
+    /// It is not, for this reason.
+    Unmade(PartFault),
+}
+
+/// What a watch over one service found.
+#[derive(Clone, Copy, Debug, PartialEq, Eq)]
+pub enum Sight {
+    /// It is kept running. Present: why it has no sockets yet.
+    Runs(Option<PartFault>),
+    /// It was asked to exit and is gone. This was lost.
+    Gone(Loss),
+}
+
+/// The services of a folder, or one service, which it keeps running. Contracts see which calls were made and their
+/// results, while these are recorded.
 pub trait ServiceSet {
     ghost use Rattle.std.specs.Prelude.{◌∷◌, [], ⊤, Option, None, List, option_map};
-    ghost use Rattle.svscan_rounds.specs.Calls.{Call, Began, Listed, Scanned, Heard, Ended, Left};
+    ghost use Rattle.svscan_rounds.specs.Calls.{Call, Began, Listed, Scanned, Heard, Ended, Left, Supervised, Watched};
     ghost use Rattle.tai_status.specs.Extended.{Extended};
 
     ghost calls: { Self → Option (List Call) } = { λ _. None };
@@ -157,4 +175,15 @@ pub trait ServiceSet {
         requires { ready self.old }
         ensures ready { ready self.new }
         ensures left { Extended (calls self.old) (calls self.new) (Left result.items ∷ []) };
+    /// Begins the service in a folder, without its logger, and serves it there. Says why not.
+    fn supervise(&mut self, folder: &str) -> Supervision
+        requires { ready self.old }
+        ensures ready { ready self.new }
+        ensures supervised { Extended (calls self.old) (calls self.new) (Supervised folder.now result ∷ []) };
+
+    /// Watches over the service that was begun, until it is gone, for at most five seconds. It may return early.
+    fn watch(&mut self) -> Sight
+        requires { ready self.old }
+        ensures ready { ready self.new }
+        ensures watched { Extended (calls self.old) (calls self.new) (Watched result ∷ []) };
 }
