@@ -82,7 +82,8 @@ def said(record):
         return {"error": "bad status record: " + why}
     pid, long = int.from_bytes(record[12:16], "little"), len(record) == 20
     return {"up": pid > 0, "pid": pid or None, "phase": PHASES[record[19]] if long else None, "want": WANTS[record[17]],
-            "paused": record[16] == 1, "normally": "up", "exiting": record[18] == 1 if long else None, "finishing": False}
+            "paused": record[16] == 1, "normally": "up", "exiting": record[18] == 1 if long else None, "ready": None,
+            "finishing": False, "backoff": None}
 
 
 records = []

@@ -22,12 +22,12 @@ import socket
 door = socket.socket(socket.AF_UNIX)
 door.bind("supervise/ok")
 door.listen(16)
-open("supervise/ready", "w").close()
+open("supervise/listens", "w").close()
 while True:
     door.accept()[0].close()
 ') &
   listeners+=($!)
-  for _ in $(seq 500); do [ -e "$1/supervise/ready" ] && return; sleep 0.02; done
+  for _ in $(seq 500); do [ -e "$1/supervise/listens" ] && return; sleep 0.02; done
   echo "page: nobody listens in $1"
   exit 1
 }

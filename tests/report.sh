@@ -79,46 +79,85 @@ standing() { record "$1" "$2" "$3 $past"; }
 
 listen s
 standing 'up' "${label}671200000075" \
-  'up=true pid=4711 seconds="S" phase=null want="up" paused=false normally="up" exiting=null finishing=false'
+  'up=true pid=4711 seconds="S" phase=null want="up" paused=false normally="up" exiting=null ready=null finishing=false backoff=null'
 standing 'paused, wanted down' "${label}671200000164" \
-  'up=true pid=4711 seconds="S" phase=null want="down" paused=true normally="up" exiting=null finishing=false'
+  'up=true pid=4711 seconds="S" phase=null want="down" paused=true normally="up" exiting=null ready=null finishing=false backoff=null'
 standing 'down' "${label}000000000064" \
-  'up=false pid=null seconds="S" phase=null want="down" paused=false normally="up" exiting=null finishing=false'
+  'up=false pid=null seconds="S" phase=null want="down" paused=false normally="up" exiting=null ready=null finishing=false backoff=null'
 standing 'down, once' "${label}000000000000" \
-  'up=false pid=null seconds="S" phase=null want="once" paused=false normally="up" exiting=null finishing=false'
+  'up=false pid=null seconds="S" phase=null want="once" paused=false normally="up" exiting=null ready=null finishing=false backoff=null'
 standing 'the greatest process number' "${label}ffffffff0075" \
-  'up=true pid=4294967295 seconds="S" phase=null want="up" paused=false normally="up" exiting=null finishing=false'
+  'up=true pid=4294967295 seconds="S" phase=null want="up" paused=false normally="up" exiting=null ready=null finishing=false backoff=null'
 record 'in the future' 7fffffffffffffff00000000671200000075 \
-  'up=true pid=4711 seconds=0 phase=null want="up" paused=false normally="up" exiting=null finishing=false since=4611686018427387893 starts=null deaths=null last=null'
+  'up=true pid=4711 seconds=0 phase=null want="up" paused=false normally="up" exiting=null ready=null finishing=false backoff=null since=4611686018427387893 starts=null deaths=null last=null'
 standing 'starting' "${label}0000000000750000" \
-  'up=false pid=null seconds="S" phase="starting" want="up" paused=false normally="up" exiting=false finishing=false'
+  'up=false pid=null seconds="S" phase="starting" want="up" paused=false normally="up" exiting=false ready=null finishing=false backoff=null'
 standing 'settling' "${label}6712000000750001" \
-  'up=true pid=4711 seconds="S" phase="settling" want="up" paused=false normally="up" exiting=false finishing=false'
+  'up=true pid=4711 seconds="S" phase="settling" want="up" paused=false normally="up" exiting=false ready=null finishing=false backoff=null'
 standing 'resting' "${label}0000000000750002" \
-  'up=false pid=null seconds="S" phase="resting" want="up" paused=false normally="up" exiting=false finishing=false'
+  'up=false pid=null seconds="S" phase="resting" want="up" paused=false normally="up" exiting=false ready=null finishing=false backoff=null'
 standing 'phase up, exiting' "${label}6712000001640103" \
-  'up=true pid=4711 seconds="S" phase="up" want="down" paused=true normally="up" exiting=true finishing=false'
+  'up=true pid=4711 seconds="S" phase="up" want="down" paused=true normally="up" exiting=true ready=null finishing=false backoff=null'
 : >s/down
 standing 'phase down, a file down' "${label}0000000000640004" \
-  'up=false pid=null seconds="S" phase="down" want="down" paused=false normally="down" exiting=false finishing=false'
+  'up=false pid=null seconds="S" phase="down" want="down" paused=false normally="down" exiting=false ready=null finishing=false backoff=null'
 rm s/down
 standing 'gone' "${label}0000000000640105" \
-  'up=false pid=null seconds="S" phase="gone" want="down" paused=false normally="up" exiting=true finishing=false'
-# A file finish, and a process that lives or does not: no process has the greatest number.
+  'up=false pid=null seconds="S" phase="gone" want="down" paused=false normally="up" exiting=true ready=null finishing=false backoff=null'
+# What a service does that its status does not say. The file exit says that its process has ended: then it finishes, if it has a
+# finish, or its next start waits, if the file backoff says so. Until it has ended, the file ready says whether it is ready. A file
+# counts if its process is that of the record, and its time is not before the start of that.
+earlier=@400000003a4fc88900000000 later=@400000003a4fc88b00000000 until=@400000003a4fc8c600000000
+digits="${label}6712000000750003"
+# course NAME WANTED [LAST]: what is said of s with these files
+course() {
+  record "$1" "$digits" "up=true pid=4711 seconds=\"S\" phase=\"up\" want=\"up\" paused=false normally=\"up\" exiting=false $2 \
+since=978307200 starts=null deaths=null last=${3-null}"
+}
+# sample METRIC: its value for s; and the line of svstat, without its numbers of seconds
+sample() { "$program" svstat --metrics s | sed -n "s/^dtools_service_$1{service=\"s\"} //p"; }
+line() { "$program" svstat s | sed -E 's/[0-9]+ seconds/N seconds/g'; }
+end() { printf '[["pid", %s], ["status", 0], ["signal", null], ["at", %s]]' "$1" "$2"; }
 : >s/finish
-standing 'its process has ended, and it has a finish' "${label}ffffffff00750003" \
-  'up=true pid=4294967295 seconds="S" phase="up" want="up" paused=false normally="up" exiting=false finishing=true'
-is 'finishing: svstat' 's: up (pid 4294967295) N seconds, finishing' "$("$program" svstat s | sed -E 's/ [0-9]+ seconds/ N seconds/')"
-is 'finishing: metrics' 'dtools_service_finishing{service="s"} 1' "$("$program" svstat --metrics s | grep '^dtools_service_finishing')"
-standing 'its process lives' "${label}0100000000750003" \
-  'up=true pid=1 seconds="S" phase="up" want="up" paused=false normally="up" exiting=false finishing=false'
-is 'it lives: metrics' 'dtools_service_finishing{service="s"} 0' "$("$program" svstat --metrics s | grep '^dtools_service_finishing')"
-standing 'a finish, and no process' "${label}0000000000640004" \
-  'up=false pid=null seconds="S" phase="down" want="down" paused=false normally="up" exiting=false finishing=false'
-rm s/finish
+course 'a finish, and nothing says that its process has ended' 'ready=null finishing=false backoff=null'
+echo "4711 status 0 $later" >s/supervise/exit
+course 'its process has ended, and it has a finish' 'ready=null finishing=true backoff=null' "$(end 4711 978307201)"
+is 'finishing: svstat' 's: up (pid 4711) N seconds, finishing' "$(line)"
+is 'finishing: metrics' '0 1 0' "$(echo $(sample ready) $(sample finishing) $(sample backing_off))"
+echo "4711 $later" >s/supervise/ready
+course 'a process that has ended is not ready' 'ready=null finishing=true backoff=null' "$(end 4711 978307201)"
+echo "4711 $until" >s/supervise/backoff
+course 'its next start waits' 'ready=null finishing=false backoff=978307260' "$(end 4711 978307201)"
+is 'backoff: svstat' 's: up (pid 4711) N seconds, backoff N seconds' "$(line)"
+is 'backoff: metrics' '0 0 1' "$(echo $(sample ready) $(sample finishing) $(sample backing_off))"
+echo "4710 $until" >s/supervise/backoff
+course 'a wait after another process' 'ready=null finishing=true backoff=null' "$(end 4711 978307201)"
+rm s/finish s/supervise/backoff
+course 'without a finish' 'ready=null finishing=false backoff=null' "$(end 4711 978307201)"
+echo "4710 status 0 $later" >s/supervise/exit
+course 'another process has ended, and this one is ready' 'ready=978307201 finishing=false backoff=null' "$(end 4710 978307201)"
+is 'ready: svstat' 's: up (pid 4711) N seconds, ready N seconds' "$(line)"
+is 'ready: metrics' '1 0 0' "$(echo $(sample ready) $(sample finishing) $(sample backing_off))"
+echo "4711 status 0 $earlier" >s/supervise/exit
+course 'one with its number ended before it began' 'ready=978307201 finishing=false backoff=null' "$(end 4711 978307199)"
+rm s/supervise/exit
+for row in "4710 $later" "4711 $earlier" "4711  " "47110 $later" "04711 $later" "4711 ${later}0" "4711 ${later#@}" "x $later" ''; do
+  echo "$row" >s/supervise/ready
+  course "ready: $row" 'ready=null finishing=false backoff=null'
+done
+printf '4711 %s' "$later" >s/supervise/ready
+course 'ready: no newline' 'ready=null finishing=false backoff=null'
+rm s/supervise/ready
+mkfifo s/supervise/ready s/supervise/exit s/supervise/backoff
+course 'pipes' 'ready=null finishing=false backoff=null'
+rm s/supervise/ready s/supervise/exit s/supervise/backoff
+echo "0 $later" >s/supervise/ready
+standing 'no process, and a word of none' "${label}0000000000640004" \
+  'up=false pid=null seconds="S" phase="down" want="down" paused=false normally="up" exiting=false ready=null finishing=false backoff=null'
+rm s/supervise/ready
 
 # Since when, its counts, and how its last process ended: the lines of counts and exit that docs/FORMATS.md has.
-up='up=true pid=4711 seconds="S" phase=null want="up" paused=false normally="up" exiting=null finishing=false since=978307200'
+up='up=true pid=4711 seconds="S" phase=null want="up" paused=false normally="up" exiting=null ready=null finishing=false backoff=null since=978307200'
 printf '7 6\n' >s/supervise/counts
 record 'counts' "${label}671200000075" "$up starts=7 deaths=6 last=null"
 for row in '4710 status 0|{"pid": 4710, "status": 0, "signal": null, "at": 978307201}' \
@@ -222,7 +261,9 @@ since_timestamp_seconds 0 ${8-978307200}
 ${4:+$(phases "$4")
 }wanted_up 0 $5
 paused 0 $6
-finishing 0 0" s
+ready 0 0
+finishing 0 0
+backing_off 0 0" s
 }
 chmod 755 s/supervise
 measured 'up' "${label}671200000075" 1 '' 1 0 S
@@ -251,7 +292,9 @@ seconds 0 S
 since_timestamp_seconds 0 978307200
 wanted_up 0 1
 paused 0 0
-finishing 0 0'
+ready 0 0
+finishing 0 0
+backing_off 0 0'
 for row in '0 0' '7 6' '10 9' '18446744073709551615 18446744073709551615'; do
   printf '%s\n' "$row" >s/supervise/counts
   metrics "counts: $row" "$some
@@ -288,7 +331,7 @@ object 'counts and an end beside a bad record: object' 'error="bad status record
 rm s/supervise/status s/supervise/counts s/supervise/exit
 
 # Names of any bytes: what is said of each when nobody is there, and when its record is read.
-up="up=true pid=4711 seconds=\"S\" phase=\"up\" want=\"up\" paused=false normally=\"up\" exiting=false finishing=false $past"
+up="up=true pid=4711 seconds=\"S\" phase=\"up\" want=\"up\" paused=false normally=\"up\" exiting=false ready=null finishing=false backoff=null $past"
 names=('a b' '"' '\' '\"' "'" '{"path":"x"}' $'a\nb' $'\n' $'\t\r\b\f' $'\x01\x1f\x7f' '\u0041' '--json' '-x' 'grün' '日本' '🦀'
   $'\xe2\x80\xa8' "$(printf 'n%.0s' $(seq 255))" "$(printf '"%.0s' $(seq 255))" "$(printf '\\%.0s' $(seq 255))"
   "$(printf 'é%.0s' $(seq 127))")
@@ -317,7 +360,9 @@ metrics 'metrics: all names' "$(
   for phase in starting settling up down resting gone; do each "phase[$phase]" $([ $phase = up ] && echo 1 || echo 0); done
   each wanted_up 1
   each paused 0
+  each ready 0
   each finishing 0
+  each backing_off 0
   each starts_total
   for place in "${!names[@]}"; do echo "deaths_total $place $place"; done
 )" "${names[@]}"

@@ -35,7 +35,7 @@ for name in sys.argv[3:]:
     door.bind("supervise/" + name)
     door.listen(16)
     choice.register(door, selectors.EVENT_READ, name)
-open("supervise/ready", "w").close()
+open("supervise/listens", "w").close()
 while True:
     for key, _ in choice.select():
         stream, _ = key.fileobj.accept()
@@ -52,7 +52,7 @@ listen() {
   mkdir -p "$folder/supervise"
   python3 listener.py heard "$@" &
   listeners+=($!)
-  for _ in $(seq 100); do [ -e "$folder/supervise/ready" ] && return; sleep 0.02; done
+  for _ in $(seq 100); do [ -e "$folder/supervise/listens" ] && return; sleep 0.02; done
   echo "svc: nobody listens in $folder"
   exit 1
 }
@@ -183,11 +183,11 @@ for name in ("control", "ok"):
     first = socket.socket(socket.AF_UNIX)
     first.connect("full/supervise/" + name)
     held += [door, first]
-open("full/supervise/ready", "w").close()
+open("full/supervise/listens", "w").close()
 time.sleep(60)
 END
 listeners+=($!)
-for _ in $(seq 100); do [ -e full/supervise/ready ] && break; sleep 0.02; done
+for _ in $(seq 100); do [ -e full/supervise/listens ] && break; sleep 0.02; done
 ended 'a full queue' 0 '' "$warning full: no answer" svc -t full
 ended 'a full queue: -W' 111 '' "$warning full: no answer" svc -W -t full
 ended 'a full queue: svstat' 0 'full: unable to open supervise/ok: no answer' '' svstat full

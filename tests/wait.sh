@@ -62,13 +62,13 @@ over() {
 # number of that process is left in listener
 listen() {
   mkdir -p "$1/supervise"
-  rm -f "$1/supervise/ok" "$1/supervise/ready"
+  rm -f "$1/supervise/ok" "$1/supervise/listens"
   (cd "$1" && exec python3 -c '
 import socket
 door = socket.socket(socket.AF_UNIX)
 door.bind("supervise/ok")
 door.listen(64)
-open("supervise/ready", "w").close()
+open("supervise/listens", "w").close()
 looks = open("supervise/looks", "ab", 0)
 while True:
     door.accept()[0].close()
@@ -77,7 +77,7 @@ while True:
   listener=$!
   disown
   listeners+=("$listener")
-  until_true test -e "$1/supervise/ready" || { echo "wait: nobody listens in $1"; exit 1; }
+  until_true test -e "$1/supervise/listens" || { echo "wait: nobody listens in $1"; exit 1; }
 }
 
 # looked NUMBER FOLDER: whether it was looked at so often
@@ -147,6 +147,29 @@ found 'gone, wanted up' "$label$none"00$up"01$gone" 99 0
 found 'of 18 bytes, with a process' "$label$some"00$up 0 99
 found 'of 18 bytes, process 16777216, which is not there' "$label"00000001"00$down" 99 99
 found 'of 18 bytes, without one' "$label$none"00$up 99 0
+# Readiness: which processes and which lines of the file ready -U takes.
+later=@4000000065000001000000ff sooner=@4000000065000000000000fe
+# prepared NAME STATUS PROCESS [LINE]: whether -U takes a record that is settling, or starting if there is no process, of this
+# process, with this line
+prepared() {
+  local phase=$settling
+  [ "$3" = "$none" ] && phase=$starting
+  status s "$label$3"00$up"00$phase"
+  rm -f s/supervise/ready
+  [ -z "${4-}" ] || echo "$4" >s/supervise/ready
+  local reported=''
+  [ "$2" = 0 ] || reported='wait: s: not ready in time'
+  ended "ready: $1" "$2" "$reported" -U -t 0 s
+}
+prepared 'no file' 99 "$some"
+prepared 'its process' 0 "$some" "$lasting $later"
+prepared 'its process, as it began' 0 "$some" "$lasting @$label"
+prepared 'one with its number that ended before' 99 "$some" "$lasting $sooner"
+prepared 'another process' 99 "$some" "1$lasting $later"
+prepared 'a process that has ended' 99 "$zombie" "$(cat zombie) $later"
+prepared 'no process' 99 "$none" "0 $later"
+prepared 'no line of svscan' 99 "$some" "$lasting ready"
+rm -f s/supervise/ready
 # A record that says up, of a process that has ended, is no service that is up: supervise has not taken the death yet.
 found 'up, and its process is gone' "$label$ended"00$up"00$phase_up" 99 99
 found 'up, and its process is a zombie' "$label$zombie"00$up"00$phase_up" 99 99
@@ -386,7 +409,7 @@ door.bind("full/supervise/ok")
 door.listen(0)
 first = socket.socket(socket.AF_UNIX)
 first.connect("full/supervise/ok")
-open("full/supervise/ready", "w").close()
+open("full/supervise/listens", "w").close()
 while not os.path.exists("full/accept"):
     time.sleep(0.02)
 while True:
@@ -394,7 +417,7 @@ while True:
 ' &
 listeners+=($!)
 disown
-until_true test -e full/supervise/ready
+until_true test -e full/supervise/listens
 status full "$label$some"00$up"00$phase_up"
 ended 'a full queue: -t 0' 99 'wait: full: not up in time' -t 0 full
 ended 'a full queue: -x' 99 'wait: full: still supervised' -x -t 0 full

@@ -23,12 +23,12 @@ import socket
 door = socket.socket(socket.AF_UNIX)
 door.bind("supervise/ok")
 door.listen(16)
-open("supervise/ready", "w").close()
+open("supervise/listens", "w").close()
 while True:
     door.accept()[0].close()
 ') &
   listeners+=($!)
-  for _ in $(seq 100); do [ -e "$1/supervise/ready" ] && return; sleep 0.02; done
+  for _ in $(seq 100); do [ -e "$1/supervise/listens" ] && return; sleep 0.02; done
   echo "why: nobody listens in $1"
   exit 1
 }
@@ -502,11 +502,11 @@ door.bind("full/supervise/ok")
 door.listen(0)
 first = socket.socket(socket.AF_UNIX)
 first.connect("full/supervise/ok")
-open("full/supervise/ready", "w").close()
+open("full/supervise/listens", "w").close()
 time.sleep(60)
 ' &
 listeners+=($!)
-for _ in $(seq 100); do [ -e full/supervise/ready ] && break; sleep 0.02; done
+for _ in $(seq 100); do [ -e full/supervise/listens ] && break; sleep 0.02; done
 said 'a full queue' 111 "full can't be reached." full
 # As another user, if this one may be that.
 if [ "$(id -u)" = 0 ] && command -v setpriv >/dev/null; then

@@ -4,4 +4,4 @@
 pub(crate) const KIT: &str = "rattle-kit-13f logic dac8208d650f15bf";
 
 /// The sum of its sources, as packaging/source-sum says it.
-pub(crate) const SOURCE: &str = "220d04f7369cc9999ecc6211a8ef24bc9b6e2020092beea33203010e96880de8";
+pub(crate) const SOURCE: &str = "26708a173034b81da6d9b516ff54fe3e011224a867fb47c19ed15da5aa29e13f";

@@ -126,3 +126,91 @@ where
         }
         Command::Svscan => return run_svscan(waiting, service_set, words, faults),
         Command::Supervise => return run_supervise(waiting, service_set, words, faults),
+        Command::Envdir => return run_envdir(rt, launcher, rt.alloc(), words, writer, faults),
+        Command::Trace => return run_trace(rt, rt.alloc(), zone, words, writer, faults),
+        Command::Help => return run_help(words, writer, faults),
+        Command::Version => return run_version(words, writer, faults),
+    }
+}
+
+/// Reports that no command is named, and which command lists them, and returns the exit status for that.
+fn refuse_no_command<E: Write>(faults: &mut Output<E>) -> u8
+    ensures status { result ≡ 100 }
+    ensures reported { Reports faults.old faults.new no_command_report }
+{
+    report(
+        faults,
+        b"dtools: usage\ndtools help lists the commands\n",
+        REFUSED,
+    )
+}
+
+/// Runs the command that the first word names, over the words after it, and returns its exit status. If there is no
+/// word, or the first one names no command, reports `dtools: usage`, with a line that names `dtools help`, and returns
+/// 100.
+pub fn run<R, L, K, I, S, P, V, T, Z, D, W, E, C>(
+    rt: &R,
+    launcher: &mut L,
+    store: &mut FolderStore<K>,
+    lines: &mut I,
+    service_set: &mut P,
+    waiting: &V,
+    pace: &mut T,
+    zone: &Z,
+    words: &[&str],
+    devices: &mut Devices<D, W, E, S, C>,
+) -> u8
+where
+    R: FileSource + ServicePlaces + EnvSystem + ServiceFiles + CountFiles + AllocGlobal,
+    L: Launcher,
+    K: LogSystem + Drop,
+    I: PartedInput,
+    S: Services,
+    P: ServiceSet,
+    V: Wait,
+    T: Pace,
+    Z: Zone + LocalTimes,
+    D: Read,
+    W: Write,
+    E: Write,
+    C: TimeSource,
+    requires ready { P.ready service_set.old }
+    requires no_logs { store.old.logs ≡ [] }
+    requires no_files { store.old.statuses ≡ [] }
+    ensures leaves { LeftAlone (texts words.now) devices.old devices.new }
+    ensures plain { PlainProgram (texts words.now) result devices.old devices.new }
+    ensures zoned { ZonedProgram (texts words.now) result (Z.ahead_at zone.now)
+        (known_files (R.file_at rt.now) (R.fault_at rt.now)) (R.place_at rt.now) devices.old devices.new }
+    ensures child { ChildProgram (texts words.now) result (R.state rt.now)
+        (L.calls launcher.old) (L.calls launcher.new) devices.old devices.new }
+    ensures logs { LoggerProgram (texts words.now) result store.old store.new
+        (I.feed lines.old) (I.feed lines.new) devices.old devices.new }
+    ensures services { ServiceProgram (texts words.now) result
+        (report_files (R.counts_at rt.now) (knowledge (R.texts rt.now) (Z.text_at zone.now))) devices.old devices.new }
+    ensures why { ReasonProgram (texts words.now) result (knowledge (R.texts rt.now) (Z.text_at zone.now))
+        devices.old devices.new }
+    ensures wait { PacedProgram (texts words.now) result (T.steps pace.old) (T.steps pace.new)
+        devices.old devices.new }
+    ensures scan { ScanProgram (texts words.now) result
+        (P.calls service_set.old) (P.calls service_set.new) devices.old devices.new }
+{
+    match words {
+        [word, words @ ..] => match Command::named(word) {
+            Some(command) => run_command(
+                rt,
+                launcher,
+                store,
+                lines,
+                service_set,
+                waiting,
+                pace,
+                zone,
+                command,
+                words,
+                devices,
+            ),
+            None => refuse_no_command(&mut devices.faults),
+        },
+        [] => refuse_no_command(&mut devices.faults),
+    }
+}
