@@ -139,18 +139,27 @@ rectangles() {
 import re, sys
 print(re.sub(r"\d+", lambda n: str((int(n[0]) + 5) // 10 * 10), sys.stdin.read()), end="")')"
 }
-bytes "$(record 600 4712 $up)" >s/supervise/status
+# renew: the record of s says again that it began 600 s ago, so that a slow machine is not seen in the picture
+renew() {
+  now=$(date +%s)
+  bytes "$(record 600 4712 $up)" >s/supervise/status
+}
+renew
 trace s 0 starting "$(record 7300 0 $up)" 'started 4711 7200' 'clock 7199' 'death 1200' 'started 4712 600' 'clock 599'
 rectangles 'a death that nobody asked for' 'up 0+2400; down 2400+600; warn 3000+0; up 3000+600; died 2390+10; '
 is 'one restart' 1 "$(python3 read.py row 0 <page.html | cut -d'|' -f6)"
+renew
 trace s 0 starting "$(record 7300 0 $up)" 'started 4711 7200' 'clock 7199' 'byte t' 'death 1200' 'started 4712 600' 'clock 599'
 rectangles 'one that was asked for' 'up 0+2400; down 2400+600; warn 3000+0; up 3000+600; '
+renew
 trace s 0 starting "$(record 7300 0 $up)" 'started 4710 7290' 'clock 7289' 'byte t' 'death 7250' \
   'started 4711 7200' 'clock 7199' 'byte u' 'death 1200' 'started 4712 600' 'clock 599'
 rectangles 'a signal to the process before it, and a byte without a signal' \
   'up 0+2400; down 2400+600; warn 3000+0; up 3000+600; died 2390+10; '
+renew
 trace s 9 up "$(record 7200 4711 $up)" 'death 1200' 'started 4712 600' 'clock 599'
 rectangles 'a process that began before the entries' 'up 0+2400; down 2400+600; warn 3000+0; up 3000+600; '
+renew
 trace s 9 up "$(record 1800 4711 $up)" 'death 1200' 'started 4712 600' 'clock 599'
 rectangles 'a trace of half an hour' 'up 1800+600; down 2400+600; warn 3000+0; up 3000+600; '
 is 'at least so many' 'at least 1' "$(python3 read.py row 0 <page.html | cut -d'|' -f6)"
