@@ -5,7 +5,7 @@
 # are. The wanted values are those of the daemontools pages and of docs/FORMATS.md. It needs python3, for clients that
 # send what svc never does.
 # gate: 100 seconds, needs python3
-scripts=$(realpath "$(dirname "$0")/../scripts")
+scripts=$(realpath "$(dirname "$0")/../scripts") contrib=$(realpath "$(dirname "$0")/../contrib")
 . "$(dirname "$0")/checks.sh" "$1"
 export LC_ALL=C
 under=()
@@ -706,6 +706,35 @@ ready_left() {
   is 'all files are gone' 'no no no' \
     "$(exists d/before/supervise/ready) $(exists d/between/supervise/ready) $(exists d/after/supervise/ready)"
   is 'nothing was reported' '' "$(cat reported reported2)"
+}
+
+# A program that speaks sd_notify(3), with contrib/dtools-notify in front, and one that a script next to it asks.
+bridged() {
+  service d/web <<END
+exec "$contrib/dtools-notify" 3 python3 -c '
+import os, socket, time
+time.sleep(1.5)
+room = socket.socket(socket.AF_UNIX, socket.SOCK_DGRAM)
+room.sendto(b"STATUS=begins", os.environ["NOTIFY_SOCKET"])
+while not os.path.exists("serves"): time.sleep(0.05)
+room.sendto(b"STATUS=serves\nREADY=1", os.environ["NOTIFY_SOCKET"])
+time.sleep(1000)'
+END
+  service d/asked <<'END'
+(until [ -e serves ]; do sleep 0.1; done; echo >&3) &
+exec sleep 1000 3>&-
+END
+  echo 3 | tee d/web/notification-fd >d/asked/notification-fd
+  start reported d
+  soon 'up' 10 all_are is_settled d/web d/asked
+  sleep 1
+  is 'neither is ready' 'no no' "$(exists d/web/supervise/ready) $(exists d/asked/supervise/ready)"
+  touch d/web/serves d/asked/serves
+  soon 'both are' 5 timeout 10 "$program" wait -U -t 3 d/web d/asked
+  is 'each by the number of its process' "$(process d/web) $(process d/asked)" \
+    "$(cut -d' ' -f1 d/web/supervise/ready) $(cut -d' ' -f1 d/asked/supervise/ready)"
+  is 'dtools-notify without words' 'dtools-notify: usage: dtools-notify FD PROGRAM WORDS..' "$("$contrib/dtools-notify" 2>&1)"
+  is 'nothing was reported' '' "$(cat reported)"
 }
 
 # After five ends within a minute that nobody asked for, the next start waits.
@@ -2735,7 +2764,7 @@ play_all() {
   done
 }
 
-scenarios=(life modes_kept delegated exits endings finishes bounded_finish timed_kill timed_kill_left ready ready_left backs_off backs_off_left killed_finish no_run links stubborn killed_service killed_svscan killed_early unnamed starved unwritten new_boot other_user earlier_record elsewhere changes twice names silent
+scenarios=(life modes_kept delegated exits endings finishes bounded_finish timed_kill timed_kill_left ready ready_left bridged backs_off backs_off_left killed_finish no_run links stubborn killed_service killed_svscan killed_early unnamed starved unwritten new_boot other_user earlier_record elsewhere changes twice names silent
   connections no_supervise unheard rounds untaken own refused last_words upgraded unread ordered first_process two_services child begins_anew shortage
   descriptors_reported unchanged resting full_disk full_put_down placeless held_locks held_pair many_bytes raised_limit
   odd_environment unreaped bounded_end no_folder folder_away apart)
