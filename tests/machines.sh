@@ -43,7 +43,7 @@ is 'metrics: no words' '100 dtools-metrics: usage: dtools-metrics file [folder]'
 
 if command -v promtool >/dev/null; then
   is 'promtool: metrics' '' "$(promtool check metrics <file.prom 2>&1 || echo "status $?")"
-  is 'promtool: rules' '4 rules found' "$(promtool check rules "$top/contrib/dtools.rules.yml" | grep -o '[0-9]* rules found')"
+  is 'promtool: rules' '5 rules found' "$(promtool check rules "$top/contrib/dtools.rules.yml" | grep -o '[0-9]* rules found')"
 fi
 if command -v systemd-analyze >/dev/null; then
   mkdir units
