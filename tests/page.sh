@@ -123,9 +123,9 @@ printf '4710 signal KILL @%s\n' "$(digits 300)" >s/supervise/exit
 page 'up' s
 is 'up: reported' '' "$(cat reported)"
 is 'up' "s|up|$(date -u -d "@$((now - 7200))" '+%Y-%m-%d %H:%M:%S')|4711|up|0|SIGKILL, 5 min ago|up 0+3600; " \
-  "$(python3 read.py row 0 <page.html)"
+  "$(python3 read.py cells 0 <page.html)"
 TZ=JST-9 page 'a zone' s
-is 'a zone' "$(TZ=JST-9 date -d "@$((now - 7200))" '+%Y-%m-%d %H:%M:%S')" "$(python3 read.py row 0 <page.html | cut -d'|' -f3)"
+is 'a zone' "$(TZ=JST-9 date -d "@$((now - 7200))" '+%Y-%m-%d %H:%M:%S')" "$(python3 read.py cells 0 <page.html | cut -d'|' -f3)"
 is 'up: title' Services "$(python3 read.py title <page.html)"
 is 'up: elements' "$everything" "$(python3 read.py elements <page.html)"
 is 'up: loads nothing' "default-src 'none'; style-src 'unsafe-inline'" \
@@ -135,7 +135,7 @@ rm s/supervise/exit
 # rectangles NAME WANTED: those of s, with places and widths rounded to ten seconds
 rectangles() {
   page "$1" s
-  is "$1" "$2" "$(python3 read.py row 0 <page.html | sed 's/.*|//' | python3 -c '
+  is "$1" "$2" "$(python3 read.py cells 0 <page.html | sed 's/.*|//' | python3 -c '
 import re, sys
 print(re.sub(r"\d+", lambda n: str((int(n[0]) + 5) // 10 * 10), sys.stdin.read()), end="")')"
 }
@@ -147,7 +147,7 @@ renew() {
 renew
 trace s 0 starting "$(record 7300 0 $up)" 'started 4711 7200' 'clock 7199' 'death 1200' 'started 4712 600' 'clock 599'
 rectangles 'a death that nobody asked for' 'up 0+2400; down 2400+600; warn 3000+0; up 3000+600; died 2390+10; '
-is 'one restart' 1 "$(python3 read.py row 0 <page.html | cut -d'|' -f6)"
+is 'one restart' 1 "$(python3 read.py cells 0 <page.html | cut -d'|' -f6)"
 renew
 trace s 0 starting "$(record 7300 0 $up)" 'started 4711 7200' 'clock 7199' 'byte t' 'death 1200' 'started 4712 600' 'clock 599'
 rectangles 'one that was asked for' 'up 0+2400; down 2400+600; warn 3000+0; up 3000+600; '
@@ -162,20 +162,20 @@ rectangles 'a process that began before the entries' 'up 0+2400; down 2400+600; 
 renew
 trace s 9 up "$(record 1800 4711 $up)" 'death 1200' 'started 4712 600' 'clock 599'
 rectangles 'a trace of half an hour' 'up 1800+600; down 2400+600; warn 3000+0; up 3000+600; '
-is 'at least so many' 'at least 1' "$(python3 read.py row 0 <page.html | cut -d'|' -f6)"
+is 'at least so many' 'at least 1' "$(python3 read.py cells 0 <page.html | cut -d'|' -f6)"
 bytes "$(record 500 0 $down)" >s/supervise/status
 page 'another process' s
-is 'another process' 'dark' "$(python3 read.py row 0 <page.html | sed 's/.*|//' | grep -o '[a-z]* [0-9+]*; $' | cut -d' ' -f1)"
+is 'another process' 'dark' "$(python3 read.py cells 0 <page.html | sed 's/.*|//' | grep -o '[a-z]* [0-9+]*; $' | cut -d' ' -f1)"
 rm s/supervise/trace
 page 'no trace' s
-is 'no trace' 'down||' "$(python3 read.py row 0 <page.html | cut -d'|' -f2,4,8)"
+is 'no trace' 'down||' "$(python3 read.py cells 0 <page.html | cut -d'|' -f2,4,8)"
 bytes "$(record 500 0 78)" >s/supervise/status
 page 'no record' s
-is 'no record' 's|status damaged||||||' "$(python3 read.py row 0 <page.html)"
+is 'no record' 's|status damaged||||||' "$(python3 read.py cells 0 <page.html)"
 rm s/supervise/status
 page 'no status' s nosuch
-is 'no status' 's|status unreadable||||||' "$(python3 read.py row 0 <page.html)"
-is 'nobody there' 'nosuch|not supervised||||||' "$(python3 read.py row 1 <page.html)"
+is 'no status' 's|status unreadable||||||' "$(python3 read.py cells 0 <page.html)"
+is 'nobody there' 'nosuch|not supervised||||||' "$(python3 read.py cells 1 <page.html)"
 is 'nobody there: reported' "svstat: nosuch: $none" "$(cat reported)"
 
 # Names of any bytes: each has one row, and is text.
