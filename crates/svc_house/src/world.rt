@@ -1,5 +1,7 @@
 //! The world of one service: its process, its status file and a clock.
 use crate::call::StartAnswer;
+use std::alloc::Allocator;
+use std::boxed::Box;
 use std::time::Duration;
 use sup_core::Sig;
 use tai_status::Label;
@@ -65,4 +67,48 @@ pub trait World {
     /// Returns how long the service may rest before its next turn, if that turn finds nothing. `None`: until it is
     /// notified.
     fn longest_rest(&self) -> Option<Duration>;
+}
+
+/// A world on the heap. A call goes to the world inside. A thread that takes such a world moves only its address, and
+/// touches less of its stack.
+impl<W: World, A: Allocator> World for Box<W, A> {
+    ghost calls = { λ boxed. W.calls boxed.value };
+
+    ghost mends = { λ boxed. W.mends boxed.value };
+
+    fn signal(&mut self, sig: Sig, pid: u32) {
+        self.as_mut().signal(sig, pid)
+    }
+
+    fn start(&mut self) {
+        self.as_mut().start()
+    }
+
+    fn write(&mut self, bytes: &[u8; 20]) {
+        self.as_mut().write(bytes)
+    }
+
+    fn poll_start(&mut self) -> Option<StartAnswer> {
+        self.as_mut().poll_start()
+    }
+
+    fn poll_death(&mut self) -> Option<Label> {
+        self.as_mut().poll_death()
+    }
+
+    fn clock(&mut self) -> Label {
+        self.as_mut().clock()
+    }
+
+    fn mend(&mut self) {
+        self.as_mut().mend()
+    }
+
+    fn kill_time(&mut self) -> Option<u64> {
+        self.as_mut().kill_time()
+    }
+
+    fn longest_rest(&self) -> Option<Duration> {
+        self.as_ref().longest_rest()
+    }
 }

@@ -196,7 +196,7 @@ where
 {
     type Folder = OpenFolder;
 
-    type World = ChildWorld<SystemChildren<R>>;
+    type World = Box<ChildWorld<SystemChildren<R>>>;
 
     type Reaper = PartReaper;
 
@@ -266,7 +266,7 @@ where
         input: Option<&PipeReader>,
         output: Option<&File>,
         notifier: Arc<Notifier, Global>,
-    ) -> Result<(ChildWorld<SystemChildren<R>>, PartReaper), Cause> {
+    ) -> Result<(Box<ChildWorld<SystemChildren<R>>>, PartReaper), Cause> {
         let streams = copies(input, output)?;
         let _ = folder.folder.remove_earlier();
         let (mut children, reaper) = self.children(folder, name, streams, notifier)?;
@@ -283,7 +283,10 @@ where
             },
         };
         let world = ChildWorld::new(children, own.session, place, is_open, adopted);
-        Ok((world, PartReaper { reaper }))
+        match Box::new(self.alloc, world) {
+            Ok(world) => Ok((world, PartReaper { reaper })),
+            Err(refused) => Err(AllocError::from(refused).into()),
+        }
     }
 
     fn admit(

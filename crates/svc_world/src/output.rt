@@ -39,7 +39,7 @@ pub(crate) fn is_fifo<R: Files<File = File>>(files: &R, path: &str) -> bool {
 }
 
 /// Returns the command of the system's own tool that makes FIFOs for their owner alone, at the paths that follow.
-pub(crate) fn fifo_maker(alloc: Global) -> Result<Command, AllocError>
+fn fifo_maker(alloc: Global) -> Result<Command, AllocError>
     ensures program { IfOk result (λ command. command_program command ≡ codes "mkfifo") }
     ensures words { IfOk result (λ command. command_args command ≡ codes "-m" ∷ codes "600" ∷ []) }
 {
@@ -48,17 +48,23 @@ pub(crate) fn fifo_maker(alloc: Global) -> Result<Command, AllocError>
     Ok(command)
 }
 
-/// Makes FIFOs at these paths for their owner alone, by one call of the system's own tool.
-fn make_fifos<R: Processes<Started = SystemProcess> + Wait>(
+/// Makes FIFOs at these paths for their owner alone, by one call of the system's own tool. The paths begin in this
+/// folder.
+pub(crate) fn make_fifos<R: Processes<Started = SystemProcess> + Wait>(
     rt: &R,
     alloc: Global,
+    folder: &str,
     paths: &[String],
 ) -> io::Result<()> {
     let mut command = fifo_maker(alloc)?;
     for path in paths {
         command.arg(path.as_str())?;
     }
-    command.stderr(Stdio::null()).spawn(rt)?.wait()?;
+    command
+        .current_dir(folder)?
+        .stderr(Stdio::null())
+        .spawn(rt)?
+        .wait()?;
     Ok(())
 }
 
@@ -95,7 +101,7 @@ pub fn prepare_outputs<R: Processes<Started = SystemProcess> + Wait>(
     if paths.is_empty() {
         return Ok(());
     }
-    make_fifos(rt, alloc, &paths)
+    make_fifos(rt, alloc, ".", &paths)
 }
 
 /// Returns the path of the FIFO of the service in a folder.
@@ -186,7 +192,7 @@ fn make_fifo<R: Processes<Started = SystemProcess> + Wait>(
     }
     remove(files, path)?;
     let paths = [String::from_str(alloc, path)?];
-    make_fifos(rt, alloc, &paths)?;
+    make_fifos(rt, alloc, ".", &paths)?;
     if is_fifo(files, path) {
         return Ok(());
     }

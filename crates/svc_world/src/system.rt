@@ -18,7 +18,7 @@ use crate::kill::{KILL_TIME, NO_KILL_TIME, kill_seconds};
 use crate::linger::Linger;
 use crate::listening::{Listened, ReadySlot};
 use crate::notification::{FIFO, NO_NOTIFICATION, NOTIFICATION, descriptor_in, run_notifying};
-use crate::output::fifo_maker;
+use crate::output::make_fifos;
 use crate::paper::{Paper, Remark};
 use crate::processes::{AdoptedProcess, tick_of};
 use crate::surroundings::Surroundings;
@@ -28,7 +28,7 @@ use std::alloc::{AllocError, Global};
 use std::fs::File;
 use std::io;
 use std::io::{ErrorKind, PipeReader, Write};
-use std::process::{Child, Command, Processes, Stdio, SystemProcess};
+use std::process::{Child, Command, Processes, SystemProcess};
 use std::sync::{Arc, OnceLock, Wait};
 use std::time::{Clock, Duration};
 use sup_core::Sig;
@@ -336,14 +336,15 @@ where
     }
 
     // Makes a new FIFO on which the next process says that it is ready.
-    #[inline(never)]
     fn make_fifo(&self) -> io::Result<()> {
         self.folder.remove_notification()?;
-        let mut command = fifo_maker(self.alloc)?;
-        command.arg(FIFO)?.stderr(Stdio::null());
-        command.current_dir(self.folder.path(".").as_str())?;
-        command.spawn(&self.runtime)?.wait()?;
-        Ok(())
+        let folder = self.folder.path(".");
+        make_fifos(
+            &self.runtime,
+            self.alloc,
+            folder.as_str(),
+            &[String::from_str(self.alloc, FIFO)?],
+        )
     }
 
     // Makes a new FIFO for the next process, and watches it.
@@ -403,30 +404,44 @@ where
         command.spawn(&self.runtime)
     }
 
+    /// Makes a child that is `run`.
+    fn make_plain(&self) -> io::Result<Child<SystemProcess>> {
+        self.launch(&mut run(self.alloc)?)
+    }
+
+    /// Makes a shell that runs the service.
+    fn make_by_shell(&self) -> io::Result<Child<SystemProcess>> {
+        self.launch(&mut run_by_shell(self.alloc)?)
+    }
+
+    /// Makes a shell that says this about the service, and fails.
+    fn make_saying(&self, what: &str) -> io::Result<Child<SystemProcess>> {
+        self.launch(&mut say(self.alloc, self.name.as_str(), what)?)
+    }
+
     /// Makes a child in place of a `run` that can't be executed.
-    #[inline(never)]
     fn make_in_place(&self, fault: &io::Error) -> io::Result<Child<SystemProcess>> {
-        let mut command = match unable_to_run(fault) {
-            Some(what) => say(self.alloc, self.name.as_str(), what)?,
-            None => run_by_shell(self.alloc)?,
-        };
-        self.launch(&mut command)
+        match unable_to_run(fault) {
+            Some(what) => self.make_saying(what),
+            None => self.make_by_shell(),
+        }
+    }
+
+    /// Makes a child by the program that begins a session.
+    fn make_by_setsid(&self) -> io::Result<Child<SystemProcess>> {
+        self.launch(&mut run_in_session(self.alloc)?)
     }
 
     /// Makes a child in a session of its own. If there is no program for that, the child is a shell that says so.
-    #[inline(never)]
     fn make_in_session(&self) -> io::Result<Child<SystemProcess>> {
         self.folder.look_at_run()?;
-        match self.launch(&mut run_in_session(self.alloc)?) {
-            Err(fault) if fault.kind() == ErrorKind::NotFound => {
-                self.launch(&mut say(self.alloc, self.name.as_str(), NO_SETSID)?)
-            }
+        match self.make_by_setsid() {
+            Err(fault) if fault.kind() == ErrorKind::NotFound => self.make_saying(NO_SETSID),
             made => made,
         }
     }
 
     /// Makes a child that has this descriptor to say that it is ready.
-    #[inline(never)]
     fn make_notifying(&self, number: u64) -> io::Result<Child<SystemProcess>>
         requires { number ≤ GREATEST }
     {
@@ -435,19 +450,23 @@ where
         self.launch(&mut run_notifying(self.alloc, number, begins_session)?)
     }
 
+    /// Makes a child of the service, with a descriptor to say that it is ready if there is one.
+    fn make_running(&self, descriptor: Option<u64>) -> io::Result<Child<SystemProcess>>
+        requires { IfSome descriptor (λ number. number ≤ GREATEST) }
+    {
+        match descriptor {
+            Some(number) => self.make_notifying(number),
+            None if self.folder.begins_session() => self.make_in_session(),
+            None => self.make_plain(),
+        }
+    }
+
     /// Makes a child, with a descriptor to say that it is ready if there is one. If `./run` can't be executed, the child
     /// is a shell that says why.
     fn make(&self, descriptor: Option<u64>) -> io::Result<Child<SystemProcess>>
         requires { IfSome descriptor (λ number. number ≤ GREATEST) }
     {
-        let made = if let Some(number) = descriptor {
-            self.make_notifying(number)
-        } else if self.folder.begins_session() {
-            self.make_in_session()
-        } else {
-            self.launch(&mut run(self.alloc)?)
-        };
-        match made {
+        match self.make_running(descriptor) {
             Err(fault) => self.make_in_place(&fault),
             made => made,
         }
