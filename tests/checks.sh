@@ -16,6 +16,38 @@ is() {
   printf 'FAILED %s%s\n  wanted %q\n  got    %q\n' "${scenario:+$scenario: }" "$1" "$2" "$3"
 }
 
+# What listens for this script.
+listeners=()
+
+# listen FOLDER: somebody accepts at its socket supervise/ok, until the script leaves
+listen() {
+  mkdir -p "$1/supervise"
+  (cd "$1" && exec python3 -c '
+import socket
+door = socket.socket(socket.AF_UNIX)
+door.bind("supervise/ok")
+door.listen(16)
+open("supervise/listens", "w").close()
+while True:
+    door.accept()[0].close()
+') &
+  listeners+=($!)
+  for _ in $(seq 500); do [ -e "$1/supervise/listens" ] && return; sleep 0.02; done
+  echo "nobody listens in $1"
+  exit 1
+}
+
+# leave: ends what listens, and takes the room away
+leave() {
+  local pid
+  for pid in "${listeners[@]}"; do kill "$pid" 2>/dev/null; done
+  chmod -R u+rwx "$room"
+  rm -rf "$room"
+}
+
+# bytes DIGITS: the bytes of these hexadecimal digits
+bytes() { printf "$(printf '%s' "$1" | sed 's/../\\x&/g')"; }
+
 # kill_group NUMBER: kills a process group that this script started. If the system has given the number to another script's
 # process since then, that one is in another folder next to `room`, and is left alone.
 kill_group() {

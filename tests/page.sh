@@ -7,33 +7,7 @@ top=$(realpath "$(dirname "$0")/..")
 . "$top/tests/checks.sh" "$1"
 export TZ=UTC
 unset SVDIR
-listeners=()
-leave() {
-  for pid in "${listeners[@]}"; do kill "$pid" 2>/dev/null; done
-  rm -rf "$room"
-}
 trap leave EXIT
-
-# listen FOLDER: somebody accepts at its socket supervise/ok
-listen() {
-  mkdir -p "$1/supervise"
-  (cd "$1" && exec python3 -c '
-import socket
-door = socket.socket(socket.AF_UNIX)
-door.bind("supervise/ok")
-door.listen(16)
-open("supervise/listens", "w").close()
-while True:
-    door.accept()[0].close()
-') &
-  listeners+=($!)
-  for _ in $(seq 500); do [ -e "$1/supervise/listens" ] && return; sleep 0.02; done
-  echo "page: nobody listens in $1"
-  exit 1
-}
-
-# bytes DIGITS: the bytes of these hexadecimal digits
-bytes() { printf "$(printf '%s' "$1" | sed 's/../\\x&/g')"; }
 
 # digits AGO: those of the label of so many seconds before `now`
 now=$(date +%s)

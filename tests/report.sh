@@ -5,34 +5,7 @@
 # that is installed; what they must then hold is written down from docs/FORMATS.md.
 # gate: 15 seconds, needs python3
 . "$(dirname "$0")/checks.sh" "$1"
-listeners=()
-leave() {
-  for pid in "${listeners[@]}"; do kill "$pid" 2>/dev/null; done
-  chmod -R u+rwx "$room"
-  rm -rf "$room"
-}
 trap leave EXIT
-
-# listen FOLDER: somebody accepts at its socket supervise/ok
-listen() {
-  mkdir -p "$1/supervise"
-  (cd "$1" && exec python3 -c '
-import socket
-door = socket.socket(socket.AF_UNIX)
-door.bind("supervise/ok")
-door.listen(16)
-open("supervise/ready", "w").close()
-while True:
-    door.accept()[0].close()
-') &
-  listeners+=($!)
-  for _ in $(seq 500); do [ -e "$1/supervise/ready" ] && return; sleep 0.02; done
-  echo "report: nobody listens in $1"
-  exit 1
-}
-
-# bytes DIGITS: the bytes of these hexadecimal digits
-bytes() { printf "$(printf '%s' "$1" | sed 's/../\\x&/g')"; }
 
 # members FIRST LAST FOLDERS..: of each line that comes the members in their order, the first being the folder's path. The
 # seconds since the first second of 2001 are S, if the clock was between these two.

@@ -7,34 +7,7 @@
 tests=$(dirname "$(realpath "$0")")
 . "$tests/checks.sh" "$1"
 export TZ=UTC
-listeners=()
-leave() {
-  for pid in "${listeners[@]}"; do kill "$pid" 2>/dev/null; done
-  chmod -R u+rwx "$room"
-  rm -rf "$room"
-}
 trap leave EXIT
-
-# listen FOLDER: somebody accepts at its socket supervise/ok
-listen() {
-  mkdir -p "$1/supervise"
-  (cd "$1" && exec python3 -c '
-import socket
-door = socket.socket(socket.AF_UNIX)
-door.bind("supervise/ok")
-door.listen(16)
-open("supervise/listens", "w").close()
-while True:
-    door.accept()[0].close()
-') &
-  listeners+=($!)
-  for _ in $(seq 100); do [ -e "$1/supervise/listens" ] && return; sleep 0.02; done
-  echo "why: nobody listens in $1"
-  exit 1
-}
-
-# bytes DIGITS: the bytes of these hexadecimal digits
-bytes() { printf "$(printf '%s' "$1" | sed 's/../\\x&/g')"; }
 
 # Moments are seconds after `start`, 100 seconds ago, with up to nine places: 90.5 is a half second after the 90th.
 # digits MOMENT: those of its label
