@@ -3,3 +3,4 @@ pub mod Calls
 pub mod Descriptors
 pub mod Pipes
 pub mod Making
+pub mod Parts

@@ -141,16 +141,6 @@ pub record SetsUp (name : List ℕ) (part : PartId) (fault : Option MakeFault) (
     kept = kept_after fault (waiting part (part_path old.folder name part.role)) old.kept;
   }
 
--- A part was made: it was set up, is kept, and begins this way.
-abbrev pub MakesPart : (name : List ℕ) → PartId → Opening → (old new : Making) → Type 0
-MakesPart name part opening old new = SetsUp name part None (Some opening) old new
-
--- A part was not made, and the host gets this fault, which says why it was not set up.
-pub record FailsToMake (name : List ℕ) (part : PartId) (fault : PartFault) (old new : Making) : Type 0 where
-  pub failure : MakeFault
-  pub is : fault ≡ part_fault failure
-  pub sets_up : SetsUp name part (Some failure) None old new
-
 -- Pairs
 
 -- The output of a pair's service was opened, in the service's own folder, and the pipe of its logger was made. What the

@@ -3,6 +3,7 @@ ghost use Rattle.std.specs.Prelude.{◌≡◌, ◌<◌, MatchOption};
 ghost use mathlib.Core.List.{IsPrefix};
 ghost use Rattle.svc_maker.specs.Admission.{AdmitsEach, refusals};
 ghost use Rattle.svc_maker.specs.Making.{IsNowhere, IsPlace};
+ghost use Rattle.svc_maker.specs.Parts.{count_new, is_batch};
 
 use crate::part_system::{NotAdmitted, PartSystem};
 use scan_table::PartId;
@@ -11,6 +12,10 @@ use std::marker::Model;
 use svc_host::{PartFault, Unmade};
 use svc_house::ControlSender;
 use tai_status::Cause;
+
+/// How many parts may have begun and wait to be admitted to the door, before another part is made. A start takes less than
+/// two milliseconds, so that a service is served within 100 ms after its start, however many there are.
+const BATCH: usize = 32;
 
 /// The folder of a part, open and locked. Contracts see the path through which it was opened (`path`).
 pub trait LockedFolder {
@@ -47,6 +52,7 @@ impl<F: LockedFolder + Drop> Model for KeptFolder<F> {
 impl<F: LockedFolder + Drop> KeptFolder<F> {
     ghost use Rattle.std.specs.Prelude.{◌≡◌, Some, None, true, is_some};
     ghost use Rattle.svc_maker.specs.Admission.{Admits};
+    ghost use Rattle.svc_maker.specs.Parts.{is_new};
 
     /// Makes a part that waits to be admitted to the door. Its control bytes will come through `sender`.
     pub(crate) fn new(part: PartId, folder: F, sender: ControlSender) -> KeptFolder<F>
@@ -65,6 +71,13 @@ impl<F: LockedFolder + Drop> KeptFolder<F> {
         ensures { result ≡ self.now.waits }
     {
         self.sender.is_some()
+    }
+
+    /// Returns whether it waits to be admitted and was not refused yet.
+    fn is_new(&self) -> bool
+        ensures { result ≡ is_new self.now }
+    {
+        self.sender.is_some() && self.refused.is_none()
     }
 
     /// Returns why the door last refused it.
@@ -106,6 +119,20 @@ pub(crate) fn place_of<F: LockedFolder + Drop>(
         }
     }
     None
+}
+
+/// Returns how many of these parts are new.
+fn count_new<F: LockedFolder + Drop>(kept: &[KeptFolder<F>]) -> usize
+    ensures { result ≡ count_new kept.now }
+{
+    kept.iter().filter(|one| one.is_new()).count()
+}
+
+/// Returns whether so many of these parts are new that they are to be admitted before another part is made.
+pub(crate) fn is_batch<F: LockedFolder + Drop>(kept: &[KeptFolder<F>]) -> bool
+    ensures { result ≡ is_batch kept.now }
+{
+    count_new(kept) >= BATCH
 }
 
 /// Admits each of these parts that waits to the door of a system.

@@ -4,10 +4,11 @@ ghost use Rattle.std.specs.Result.{result_err, result_ok};
 ghost use Rattle.svc_host.specs.Answers.{answered};
 ghost use Rattle.svc_left.specs.Opening.{BeginsAlive};
 ghost use Rattle.svc_house.specs.Calls.{ExtendedWhileKept};
-ghost use Rattle.svc_maker.specs.Making.{EndsPart, KeepsTrace, MakesPair, MakesPart, Making, SetsUp};
+ghost use Rattle.svc_maker.specs.Making.{EndsPart, KeepsTrace, MakesPair, Making, SetsUp};
+ghost use Rattle.svc_maker.specs.Parts.{AdmitsBatch};
 
 use crate::holder::{FolderHolder, OwnFault};
-use crate::kept_folder::{KeptFolder, LockedFolder, admit_each, place_of, refusals_in};
+use crate::kept_folder::{KeptFolder, LockedFolder, admit_each, is_batch, place_of, refusals_in};
 use crate::part_system::PartSystem;
 use crate::pipes::{PairOutlets, PairPipes, leave_pipes, pipes_of};
 use crate::set_up::{MakeFault, PartSetup, part_fault, part_name, part_path, set_up};
@@ -69,6 +70,15 @@ impl<S: PartSystem + Drop> FolderMaker<S> {
         }
     }
 
+    // Admits the parts that wait to the door, if they are a batch.
+    fn admit_batch(&mut self)
+        ensures { AdmitsBatch self.old self.new }
+    {
+        if is_batch(&self.kept) {
+            admit_each(&mut self.kept, &mut self.system);
+        }
+    }
+
     // Sets a part up, and keeps it.
     fn try_part(
         &mut self,
@@ -123,8 +133,9 @@ where
     ghost use Rattle.std.specs.Prelude.{◌≡◌, [], true, None, IfErr, IfOk};
     ghost use Rattle.svc_host.specs.Answers.{answered};
     ghost use Rattle.svc_left.specs.Opening.{BeginsAlive};
-    ghost use Rattle.svc_maker.specs.Making.{EndsOutput, EndsPart, FailsToMake, KeepsTrace, LooksAtInput, Loses};
-    ghost use Rattle.svc_maker.specs.Making.{MakesPair, MakesPart, WatchesOutputs};
+    ghost use Rattle.svc_maker.specs.Making.{EndsOutput, EndsPart, KeepsTrace, LooksAtInput, Loses};
+    ghost use Rattle.svc_maker.specs.Making.{MakesPair, WatchesOutputs};
+    ghost use Rattle.svc_maker.specs.Parts.{FailsToMake, MakesPart};
     ghost use Rattle.svc_maker.specs.Pipes.{pipes_of, pipes_without};
 
     type World = S::World;
@@ -140,7 +151,7 @@ where
     type Outlets = PairOutlets;
 
     /// Keeps a part exactly if its folder was opened and locked, and its world was made; then the part waits to be
-    /// admitted to the door. The part begins as what an earlier svscan left in that folder says. The children of a pair
+    /// admitted to the door. Parts that wait already are admitted first, if they are a batch. The part begins as what an earlier svscan left in that folder says. The children of a pair
     /// have its pipes, once `pair` has made them for the slot.
     fn part(
         &mut self,
@@ -154,8 +165,11 @@ where
         ensures fresh { IfOk result (λ resources. answered (S.World.calls resources.world) ≡ []) }
         ensures alive { IfOk result (λ resources. BeginsAlive resources.opening) }
     {
-        self.try_part(name, part, sender, notifier)
-            .map_err(part_fault)
+        self.admit_batch();
+        match self.try_part(name, part, sender, notifier) {
+            Ok(resources) => Ok(resources),
+            Err(failure) => Err(part_fault(failure)),
+        }
     }
 
     /// Makes the output of a pair's service and the pipe of its logger. Once both are made, earlier ones of the slot
