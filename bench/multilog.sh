@@ -113,6 +113,26 @@ row 't s4096 n1000, 1,000 old files' 1000 lines '100 126 2142 1000' 't s4096 n10
 row 'one line' 0 line '1 1 99999 10' ./log ./log "$sizes" ./log 'n10 s99999 ./log'
 row 'lines of 50, ./log' 0 short '1 1 98000 10' ./log ./log "$sizes" ./log 'n10 s99999 ./log'
 row 'lines of 50, t ./log' 0 short '50 76 98040 10' 't ./log' 't ./log' "$sizes" '-t ./log' 'n10 s99999 t ./log'
+row 't s16777215 ./log' 0 lines '100 126 16777152 10' 't s16777215 ./log' 't s16777215 ./log' 's16777215\nn10\n' '-t ./log' \
+  'n10 s16777215 t ./log'
+
+# A log of all lines, one of the faults, and a status file. No other suite has status files.
+if [[ 'all lines, faults and a status' == *"$wanted"* ]]; then
+  best=(0 0)
+  for turn in 1 2 3 4 5; do
+    for at in 0 1; do
+      [ "$at" = 0 ] && words=("$program" multilog) || words=(multilog)
+      command -v "${words[0]}" >/dev/null || continue
+      rm -rf err status
+      read -r time memory < <(once 0 real '' "${words[@]}" t ./log '-*' '+* fatal: *' '+* *]: fatal: *' ./err =status) || continue
+      if [ "${best[at]}" = 0 ] || [ "$time" -lt "${best[at]}" ]; then best[at]=$time; fi
+    done
+  done
+  awk -v all="${best[*]}" 'BEGIN {
+    split(all, t, " ")
+    printf "| all lines, faults and a status | %.1f | %.1f | | | %.2f | | | |\n", t[1] / 1e6, t[2] / 1e6, t[2] / t[1]
+  }'
+fi
 
 # Cells: a script of 1, 8, 32 or 128 patterns in mixed forms after `-*`, over lines of 50, 92 or 2,000 bytes. None of the lines
 # match, one in ten, or all: the pattern in the middle. s6 is not run here: its regular expressions take minutes a cell.
