@@ -12,7 +12,7 @@ use std::alloc::{AllocError, Allocator, Global};
 use std::marker::Model;
 
 /// How many bytes of a front are noted in about the time that a pattern takes.
-const BYTES_A_TRY: usize = 12;
+const BYTES_A_TRY: usize = 11;
 
 /// The alerts, logs and status files of a script at which a line is selected. Contracts see a list of flags for each
 /// kind.
@@ -153,19 +153,19 @@ impl<A: Allocator + Clone> Marks<A> {
 
 /// Returns whether a line with this front is selected after the actions. The last action with a pattern that matches
 /// decides; if there is none, it is as before the actions. The actions are tried from the last one on, up to the first
-/// that decides. The front's pairs are noted if that pays for the actions that are left.
+/// that decides. The front's pairs are noted first if that pays.
 fn is_chosen_behind<B: Allocator + Clone>(actions: &[Action<B>], front: &[u8], before: bool) -> bool
     ensures { result ≡ unwrap_or (last_given (decision front.now) (map act actions.now)) before }
 {
+    if pays(actions.len(), front.len()) {
+        let mut noted = NotedText::new();
+        noted.note(front);
+        return is_chosen_noted(actions, &noted, before);
+    }
     let mut rest = actions;
     while let [earlier @ .., last] = rest {
         if let Some(chosen) = last.decision(front) {
             return chosen;
-        }
-        if pays(earlier.len(), front.len()) {
-            let mut noted = NotedText::new();
-            noted.note(front);
-            return is_chosen_noted(earlier, &noted, before);
         }
         rest = earlier;
     }
