@@ -5,7 +5,7 @@ use Rattle.std.proofs.Common.{append-nil, count_by, cond, Some, None}
 use Rattle.std.specs.Prelude.{unwrap_or}
 use Rattle.std.specs.List.{filter_map, cons_option, last_or, list_any, list_all}
 use Rattle.std.proofs.lemmas.Bool.{or_parts, and_parts, false≢true}
-use Rattle.std.proofs.lemmas.List.{map_more, map-append, take-append-drop, take_all}
+use Rattle.std.proofs.lemmas.List.{map_more, map-append, take-append-drop, take-map, take_all}
 use Rattle.std.proofs.Math.Seq.{take-add}
 use Rattle.std.proofs.lemmas.List.Elements.{filter_map-append}
 use Rattle.std.proofs.lemmas.List.Sums.{sum_by-append}
@@ -127,6 +127,31 @@ no_flag f test actions front k action flags within is none held =
     ++ (if b then is_chosen (map f (take k actions)) front ∷ [] else [])) (sym none)
     ∙ sym (choices_next test (map f (take k actions)) (f action) front)
     ∙ ap (λ acts. choices test acts front) (sym (acts_next f actions k action within is))
+
+-- Actions that send no lines.
+
+none_of_length : (flags : List Bool) → length flags ≡ 0 → [] ≡ flags
+none_of_length [] n = refl
+none_of_length (flag ∷ flags) n = absurd (omega (arith, n))
+
+-- They add no flags.
+pub no_flags : {R : Type 0} (f : R → Act) (test : Act → Bool) (actions : List R) (front : List ℕ) (n : ℕ)
+    → count_by test (take n (map f actions)) ≡ 0 → [] ≡ choices test (map f (take n actions)) front
+no_flags f test actions front n none =
+    none_of_length (choices test (map f (take n actions)) front)
+    (length-choices test (map f (take n actions)) front
+    ∙ ap (count_by test) (sym (take-map f n actions)) ∙ none)
+
+-- One more of them is counted as none.
+pub none_counted : {R : Type 0} (f : R → Act) (test : Act → Bool) (actions : List R) (k : ℕ) (action : R)
+    → k < length actions → action ≡ get_or actions k action → test (f action) ≡ false
+    → count_by test (take k (map f actions)) ≡ 0 → count_by test (take (k + 1) (map f actions)) ≡ 0
+none_counted f test actions k action within is none held =
+    let one : count_by test (f action ∷ []) ≡ 0 = ap (λ b. 0 + cond b 1 0) none in
+    let before : count_by test (map f (take k actions)) ≡ 0 = ap (count_by test) (sym (take-map f k actions)) ∙ held in
+    let sums = sum_by-append (λ (a : Act). cond (test a) 1 0) (map f (take k actions)) (f action ∷ []) in
+    ap (count_by test) (take-map f (k + 1) actions ∙ acts_next f actions k action within is)
+    ∙ (let total : count_by test (map f (take k actions) ++ f action ∷ []) ≡ 0 = omega (arith, sums, one, before) in total)
 
 -- If there is no pattern, each line is selected everywhere.
 

@@ -3,7 +3,7 @@ ghost use Rattle.std.specs.Prelude.{vec_capacity, unwrap_or, IsErr, IfOk};
 ghost use Rattle.mlog_script.specs.Script.{is_alert, is_log, is_file};
 ghost use Rattle.mlog_script.specs.Placed.{last_given};
 ghost use Rattle.mlog_script.specs.Selection.{decision, chosen, choices, Fits};
-ghost use Rattle.mlog_script.specs.Action.{act};
+ghost use Rattle.mlog_script.specs.Action.{act, AreQuiet};
 
 use crate::action::Action;
 use crate::script::Script;
@@ -12,7 +12,7 @@ use std::alloc::{AllocError, Allocator, Global};
 use std::marker::Model;
 
 /// How many bytes of a front are noted in about the time that a pattern takes.
-const BYTES_A_TRY: usize = 8;
+const BYTES_A_TRY: usize = 11;
 
 /// The alerts, logs and status files of a script at which a line is selected. Contracts see a list of flags for each
 /// kind.
@@ -77,7 +77,7 @@ impl<A: Allocator + Clone> Choices<A> {
             return;
         }
         self.marks.clear();
-        mark(script.actions(), front, &mut self.marks);
+        mark(script.actions(), script.quiet(), front, &mut self.marks);
         self.all_set = !decides;
     }
 
@@ -153,17 +153,19 @@ impl<A: Allocator + Clone> Marks<A> {
 
 /// Returns whether a line with this front is selected after the actions. The last action with a pattern that matches
 /// decides; if there is none, it is as before the actions. The actions are tried from the last one on, up to the first
-/// that decides. The front's pairs are noted if that pays for the actions that are left.
+/// that decides. The front's pairs are noted first if that pays.
 fn is_chosen_behind<B: Allocator + Clone>(actions: &[Action<B>], front: &[u8], before: bool) -> bool
     ensures { result ≡ unwrap_or (last_given (decision front.now) (map act actions.now)) before }
 {
+    if pays(actions.len(), front.len()) {
+        let mut noted = NotedText::new();
+        noted.note(front);
+        return is_chosen_noted(actions, &noted, before);
+    }
     let mut rest = actions;
     while let [earlier @ .., last] = rest {
         if let Some(chosen) = last.decision(front) {
             return chosen;
-        }
-        if pays(earlier.len(), front.len()) {
-            return is_chosen_noted(earlier, &NotedText::new(front), before);
         }
         rest = earlier;
     }
@@ -193,13 +195,15 @@ fn is_chosen_noted<B: Allocator + Clone>(
     before
 }
 
-/// Notes, for each action that sends lines, whether it selects a line with this front. Each pattern is tried at most
-/// once.
+/// Notes, for each action that sends lines, whether it selects a line with this front. The first actions, so many, send
+/// no lines. Each pattern is tried at most once.
 fn mark<A: Allocator + Clone, B: Allocator + Clone>(
     actions: &[Action<B>],
+    quiet: usize,
     front: &[u8],
     marks: &mut Marks<A>,
 )
+    requires quiet { AreQuiet quiet (map act actions.now) }
     requires empty { (marks.old.alerts.items ≡ []) × (marks.old.logs.items ≡ []) × (marks.old.files.items ≡ []) }
     requires alerts { count_by is_alert (map act actions.now) ≤ vec_capacity marks.old.alerts }
     requires logs { count_by is_log (map act actions.now) ≤ vec_capacity marks.old.logs }
@@ -210,7 +214,8 @@ fn mark<A: Allocator + Clone, B: Allocator + Clone>(
 {
     let mut chosen = true;
     let mut asked = 0;
-    for (place, action) in actions.iter().enumerate() {
+    for place in quiet..actions.len() {
+        let action = &actions[place];
         if !action.is_output() {
             continue;
         }

@@ -5,7 +5,7 @@ ghost use Rattle.mlog_script.specs.Script.{said, first_fault, is_stamp, is_alert
 ghost use Rattle.mlog_script.specs.Script.{is_within_limits, log_plans, file_paths};
 ghost use Rattle.mlog_script.specs.Named.{IsWantOfMemory};
 ghost use Rattle.mlog_script.specs.Selection.{stamps};
-ghost use Rattle.mlog_script.specs.Action.{act};
+ghost use Rattle.mlog_script.specs.Action.{act, AreQuiet};
 ghost use Rattle.mlog_script.specs.declared.word.TheConstants.{LEAST_SIZE};
 
 use crate::action::Action;
@@ -23,13 +23,15 @@ pub struct Script<A: Allocator + Clone = Global> {
     actions: Vec<Action<A>, A>,
     stamps: bool,
     has_patterns: bool,
+    // How many actions come before the first that sends lines.
+    quiet: usize,
 }
 
 impl<A: Allocator + Clone> Model for Script<A> {
     ghost use Rattle.std.specs.Prelude.{◌≡◌, true, List, map};
     ghost use Rattle.std.specs.List.{list_all, list_any};
     ghost use Rattle.mlog_script.specs.Script.{Act, is_within_limits, is_stamp, is_pattern};
-    ghost use Rattle.mlog_script.specs.Action.{act};
+    ghost use Rattle.mlog_script.specs.Action.{act, AreQuiet};
 
     ghost Value = { List Act };
 
@@ -37,7 +39,8 @@ impl<A: Allocator + Clone> Model for Script<A> {
 
     ghost invariant = { λ script. (list_all is_within_limits (map act script.actions.items) ≡ true)
         × (script.stamps ≡ list_any is_stamp (map act script.actions.items))
-        × (script.has_patterns ≡ list_any is_pattern (map act script.actions.items)) };
+        × (script.has_patterns ≡ list_any is_pattern (map act script.actions.items))
+        × AreQuiet script.quiet (map act script.actions.items) };
 }
 
 impl<A: Allocator + Clone> Script<A> {
@@ -56,10 +59,12 @@ impl<A: Allocator + Clone> Script<A> {
         let actions = read_actions(alloc, words)?;
         let stamps = any_stamp(&actions);
         let has_patterns = any_pattern(&actions);
+        let quiet = quiet_front(&actions);
         Ok(Script {
             actions,
             stamps,
             has_patterns,
+            quiet,
         })
     }
 
@@ -69,6 +74,13 @@ impl<A: Allocator + Clone> Script<A> {
         ensures limits { list_all is_within_limits self.now ≡ true }
     {
         self.actions.as_slice()
+    }
+
+    /// Returns how many actions come before the first that sends lines, or how many there are if none does.
+    pub(crate) fn quiet(&self) -> usize
+        ensures { AreQuiet result self.now }
+    {
+        self.quiet
     }
 
     /// Returns whether lines get a stamp.
@@ -137,6 +149,18 @@ fn any_pattern<A: Allocator + Clone>(actions: &[Action<A>]) -> bool
     ensures { result ≡ list_any (λ action. is_pattern (act action)) actions.now }
 {
     actions.iter().any(|action| action.is_pattern())
+}
+
+/// Returns how many actions come before the first that sends lines.
+fn quiet_front<A: Allocator + Clone>(actions: &[Action<A>]) -> usize
+    ensures { AreQuiet result (map act actions.now) }
+{
+    for (place, action) in actions.iter().enumerate() {
+        if action.is_output() {
+            return place;
+        }
+    }
+    actions.len()
 }
 
 /// Returns how many of the actions are alerts.

@@ -3,7 +3,7 @@ use Rattle.std.proofs.Common.{◌≡◌, ℕ, ◌<◌, ◌≤◌, ◌+◌, ◌*�
 use Rattle.std.proofs.Common.{◌++◌, length, get_or, set, Some, refl, sym, subst, ap, ◌∙◌, arith, get_or-set_same}
 use Rattle.std.proofs.Common.{get_or-set_other, ◌-◌, take, drop}
 use Rattle.std.specs.Prelude.{slice_get}
-use Rattle.std.proofs.lemmas.Bool.{and_parts, eqb-true, eqb-false, eq-eqb, ne_eqb, false≢true}
+use Rattle.std.proofs.lemmas.Bool.{and_parts, and_from, eqb-true, eqb-false, eq-eqb, ne_eqb, false≢true}
 use Rattle.std.proofs.lemmas.Option.{get_or_from_slice_get, slice_get-get_or, slice_get_within}
 use Rattle.std.proofs.Math.Nat.{mod-lt}
 use Rattle.std.proofs.lemmas.List.{length-set, take_rest}
@@ -156,3 +156,24 @@ pub need_at : (pattern bytes : List ℕ) (place : ℕ) → 1 ≤ length bytes �
 need_at pattern bytes place some more plain also stand is =
     let has = first_two bytes (tail_of bytes) (take_rest bytes 1) some more in
     inr (get_or bytes 0 0, get_or (tail_of bytes) 0 0, ne_eqb _ star plain, ne_eqb _ star also, stand _ _ has, is)
+
+-- The pair at the front of what is left of a text is noted, and the rest is left.
+pub noted_front : (places : List Bool) (text bytes : List ℕ) (place : ℕ) → 1 ≤ length bytes
+    → 1 ≤ length (tail_of bytes)
+    → place ≡ pair_place (get_or bytes 0 0) (get_or (tail_of bytes) 0 0) → Noted places text bytes
+    → Noted (set places place true) text (tail_of bytes)
+noted_front places text [] place some more is was = absurd (omega (arith, some))
+noted_front places text (x ∷ []) place some more is was = absurd (omega (arith, more, ap length (take_rest (x ∷ []) 1)))
+noted_front places text (x ∷ y ∷ rest) place some more is was =
+    let tail : tail_of (x ∷ y ∷ rest) ≡ y ∷ rest = take_rest (x ∷ y ∷ rest) 1 in
+    rw (is, tail) (noted_next places text x y rest was)
+
+-- The places of all needs are set if the pattern matches.
+pub needs_set : (places : List Bool) (text pattern : List ℕ) (needs : Needs) → HasPlaces places text
+    → AreNeeds needs pattern → Matches pattern text
+    → ((get_or places needs.first.place false && get_or places needs.second.place false)
+    && get_or places needs.third.place false) ≡ true
+needs_set places text pattern needs has are m =
+    and_from _ _ (and_from _ _ (need_set places text pattern needs.first.place has are.first m)
+    (need_set places text pattern needs.second.place has are.second m))
+    (need_set places text pattern needs.third.place has are.third m)

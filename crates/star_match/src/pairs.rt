@@ -1,5 +1,5 @@
 //! Pairs of adjacent bytes. A text that a pattern matches has each pair of the pattern that has no star.
-ghost use Rattle.std.specs.Prelude.{◌≡◌, ◌<◌, ◌≤◌, ℕ, true, List};
+ghost use Rattle.std.specs.Prelude.{◌≡◌, ◌<◌, ◌≤◌, ℕ, true, List, []};
 ghost use Rattle.star_match.specs.Star.{Matches};
 ghost use Rattle.star_match.specs.Pairs.{pair_place, IsNeed, AreNeeds, ArePlaces};
 
@@ -121,20 +121,29 @@ impl<'a> Model for NotedText<'a> {
 }
 
 impl<'a> NotedText<'a> {
-    /// Notes the pairs of a text. It takes one scan of the text, and no memory of an allocator.
-    pub fn new(text: &'a [u8]) -> NotedText<'a>
-        ensures { result ≡ text.now }
+    /// Returns the empty text.
+    pub fn new() -> NotedText<'a>
+        ensures { result ≡ [] }
     {
         let mut places = [false; NO_PAIR as usize + 1];
         places[NO_PAIR as usize] = true;
+        NotedText { text: b"", places }
+    }
+
+    /// Takes another text, and notes its pairs. It takes one scan of the text, and no memory of an allocator.
+    pub fn note(&mut self, text: &'a [u8])
+        ensures { self.new ≡ text.now }
+    {
+        self.places = [false; NO_PAIR as usize + 1];
+        self.places[NO_PAIR as usize] = true;
         let mut rest = text;
         while let [byte, tail @ ..] = rest {
             if let [next, ..] = tail {
-                places[pair_place(*byte, *next) as usize] = true;
+                self.places[pair_place(*byte, *next) as usize] = true;
             }
             rest = tail;
         }
-        NotedText { text, places }
+        self.text = text;
     }
 
     /// Returns the text.
@@ -150,7 +159,7 @@ impl<'a> NotedText<'a> {
         ensures { (pattern : List ℕ) → AreNeeds needs.now pattern → Matches pattern self.now → result ≡ true }
     {
         self.places[needs.first.place as usize]
-            && self.places[needs.second.place as usize]
-            && self.places[needs.third.place as usize]
+            & self.places[needs.second.place as usize]
+            & self.places[needs.third.place as usize]
     }
 }

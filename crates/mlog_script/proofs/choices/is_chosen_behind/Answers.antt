@@ -26,11 +26,6 @@ loop-rest-preserved g c =
 
 pub returns-then-pays : goal.returns-then-pays
 returns-then-pays g c =
-    let rest = c.loop-rest.rest.now in
-    let earlier : List ℕ → Bool = λ front. unwrap_or (last_given (decision front)
-    (map act (take (length rest - 1) rest))) c.args.before in
-    c.is_chosen_noted.ensures ∙ ap earlier c.new.ensures
-    ∙ sym (chosen_back act c.args.front.now rest c.last-item.result c.args.before c.in-len1-up.len_at_least c.last-item.is
-    ∙ ap (λ (o : Option Bool). unwrap_or o (earlier c.args.front.now)) (sym c.decision.ensures
-    ∙ c.in_default-decision.is))
-    ∙ c.loop-rest.invariant
+    c.is_chosen_noted.ensures
+    ∙ ap (λ (front : List ℕ). unwrap_or (last_given (decision front) (map act c.args.actions.now)) c.args.before)
+    c.note.ensures

@@ -1,9 +1,23 @@
-use Rattle.std.proofs.Common.{◌≡◌, arith, map, take}
+use Rattle.std.proofs.Common.{◌≡◌, ◌∙◌, arith, map, refl, take}
 use Rattle.mlog_script.specs.Script.{is_alert, is_log, is_file}
 use Rattle.mlog_script.specs.Selection.{is_chosen}
 use Rattle.mlog_script.specs.Action.{act}
-use Rattle.mlog_script.proofs.Choosing.{chosen_between, flags_step, no_flag, room_at}
+use Rattle.mlog_script.proofs.Choosing.{chosen_between, flags_step, no_flag, no_flags, room_at}
 use Rattle.mlog_script.proofs.choices.mark.Goals as goal
+
+pub loop-place-init : goal.loop-place-init
+loop-place-init g c =
+    let actions = c.args.actions.now in
+    let quiet = c.requires.quiet in record {
+      asked_before = omega arith;
+      chosen_is = refl;
+      alerts_are = c.requires.empty.0 ∙ no_flags act is_alert actions c.args.front.now c.args.quiet quiet.alerts;
+      logs_are = c.requires.empty.1 ∙ no_flags act is_log actions c.args.front.now c.args.quiet quiet.logs;
+      files_are = c.requires.empty.2 ∙ no_flags act is_file actions c.args.front.now c.args.quiet quiet.files;
+      alerts_fit = c.requires.alerts;
+      logs_fit = c.requires.logs;
+      files_fit = c.requires.files;
+    }
 
 pub note-requires-clause-alerts : goal.note-requires-clause-alerts
 note-requires-clause-alerts g c here =

@@ -1,8 +1,8 @@
-use Rattle.std.proofs.Common.{◌∙◌, sym, ap, List, Ok}
+use Rattle.std.proofs.Common.{◌∙◌, sym, subst, ap, List, Ok}
 use Rattle.std.specs.List.{list_any}
 use Rattle.std.proofs.lemmas.Simd.{map-map}
 use Rattle.mlog_script.specs.Script.{Act}
-use Rattle.mlog_script.specs.Action.{act}
+use Rattle.mlog_script.specs.Action.{act, AreQuiet}
 use Rattle.std.proofs.Common.{map}
 use Rattle.mlog_script.specs.Script.{is_stamp, is_pattern}
 use Rattle.mlog_script.proofs.Limits.{actions_within}
@@ -21,4 +21,6 @@ invariant_of-result g c = (
       ∙ ap (λ (acts : List _). list_any is_stamp (map act acts)) c.deref.ensures.value,
   c.any_pattern-has_patterns.ensures ∙ sym (list_any-map is_pattern act c.deref-2.result.now)
       ∙ ap (λ (acts : List _). list_any is_pattern (map act acts)) c.deref-2.ensures.value,
+  subst (λ (actions : List _). AreQuiet c.quiet_front-quiet.result (map act actions)) c.deref-3.ensures.value
+      c.quiet_front-quiet.ensures,
 )
