@@ -45,7 +45,7 @@ pub trait Outlets<O: Outlet + Drop> {
     ghost use Rattle.std.specs.Prelude.{◌≡◌, [], IfSome};
 
     /// Returns the input of the logger's newest life, into which nothing was put. Returns it once a life, and None
-    /// otherwise. If there is no input yet, the pair's notifier is notified once there is.
+    /// otherwise. If there is none yet, it is asked again when more output comes, and after each write that fails.
     fn next(&mut self) -> Option<O>
         ensures fresh { IfSome result (λ outlet. IfSome (O.bytes outlet) (λ bytes. bytes ≡ [])) };
 }
@@ -93,13 +93,11 @@ pub trait Maker {
         ensures fresh { IfOk result (λ resources. answered (Self.World.calls resources.world) ≡ []) };
 
     /// Makes the output of the service of a pair with this name, which continues from life to life, and the outlets for
-    /// it. A fault says why they can't be made. It may be called again for a slot, if no thread could be made. What
-    /// carries the output waits for `notifier`.
+    /// it. A fault says why they can't be made. It may be called again for a slot, if no thread could be made.
     fn pair(
         &mut self,
         name: &str,
         slot: u64,
-        notifier: Arc<Notifier, Global>,
     ) -> Result<(Self::Output, Self::Outlets), PartFault>
         ensures calls { ExtendedWhileKept (calls self.old) (calls self.new)
             (MadePair slot name.now (result_err result) ∷ []) };

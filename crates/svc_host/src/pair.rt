@@ -352,7 +352,7 @@ impl Pair {
         let Ok(shared) = Arc::new(alloc, PairShared::new(alloc)?) else {
             return Err(PartFault::Refused(Cause::NoMemory));
         };
-        let (output, outlets) = maker.pair(name, slot, Arc::try_clone(&shared.filled)?)?;
+        let (output, outlets) = maker.pair(name, slot)?;
         let taking = Taking {
             alloc,
             output: GrowingReader::new(alloc, output)?,
