@@ -9,7 +9,7 @@ use std::sync::{Arc, Mutex, Wait};
 use std::thread::{Builder, JoinHandle, Threads};
 use std::time::{Clock, Duration};
 use std::{io, thread};
-use svc_house::ControlSender;
+use svc_house::{ControlSender, Runtime};
 
 /// The most events that one poll gives.
 const EVENTS: usize = 256;
@@ -38,10 +38,7 @@ impl Door {
     ghost use Rattle.std.specs.Prelude.{◌≡◌, IfErr};
 
     /// Opens a door with no part, and starts its thread.
-    pub fn open<R>(rt: &R, alloc: Global) -> io::Result<Door>
-    where
-        R: Net + Threads + Wait + Clock + Copy + Send + Drop + 'static,
-    {
+    pub fn open<R: Net + Runtime>(rt: &R, alloc: Global) -> io::Result<Door> {
         let poll = Poll::new(rt)?;
         let events = Events::with_capacity(alloc, EVENTS)?;
         let shared = Arc::new(
@@ -98,15 +95,12 @@ fn time(clock: &impl Clock) -> u64 {
 }
 
 /// Starts the door's thread.
-fn start<R>(
+fn start<R: Runtime>(
     rt: R,
     poll: Poll,
     events: Events<Global>,
     shared: Arc<DoorShared, Global>,
-) -> io::Result<JoinHandle<()>>
-where
-    R: Threads + Wait + Clock + Copy + Send + Drop + 'static,
-{
+) -> io::Result<JoinHandle<()>> {
     Builder::new()
         .stack_size(1)
         .spawn(&rt, move || run(&rt, poll, events, &shared))

@@ -15,7 +15,6 @@ use crate::maker::{Maker, PartFault, PartResources, Reaper};
 use crate::pair::Pair;
 use crate::part::Part;
 use crate::running::{Running, end};
-use crate::runtime::Runtime;
 use crate::service::{Beginning, Task};
 use crate::shared::Activity;
 use scan_table::{DirRow, PartId, Role, ScanTable, find_row};
@@ -23,7 +22,7 @@ use std::alloc::Global;
 use std::io;
 use std::sync::Arc;
 use std::thread::Builder;
-use svc_house::Notifier;
+use svc_house::{Notifier, Runtime};
 use svc_station::parked::Parked;
 use tai_status::{Cause, Label};
 
