@@ -118,12 +118,7 @@ impl Maker for Cast {
         })
     }
 
-    fn pair(
-        &mut self,
-        _name: &str,
-        slot: u64,
-        _notifier: Arc<Notifier, Global>,
-    ) -> Result<(Said, Lives), PartFault> {
+    fn pair(&mut self, _name: &str, slot: u64) -> Result<(Said, Lives), PartFault> {
         let (bytes, taken) = if slot == 0 {
             (*b"abcdef", Arc::try_clone(&self.taken[0])?)
         } else {

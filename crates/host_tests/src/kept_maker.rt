@@ -89,13 +89,8 @@ impl Maker for KeptMaker {
         made
     }
 
-    fn pair(
-        &mut self,
-        name: &str,
-        slot: u64,
-        notifier: Arc<Notifier, Global>,
-    ) -> Result<(Said, Lives), PartFault> {
-        let made = self.cast.pair(name, slot, notifier);
+    fn pair(&mut self, name: &str, slot: u64) -> Result<(Said, Lives), PartFault> {
+        let made = self.cast.pair(name, slot);
         self.calls.note_pair(slot, name, fault_of(&made));
         made
     }

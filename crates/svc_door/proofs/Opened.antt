@@ -12,7 +12,6 @@ use Rattle.std.proofs.lemmas.Map.Keys.{IsDistinct-cons}
 use Rattle.std.proofs.lemmas.Map.Made.{length-le_from_is_member}
 use Rattle.std.proofs.Math.Dec.{eqb}
 use Rattle.slab.specs.Slab.{Slab, get, slab_len}
-use Rattle.svc_door.specs.declared.byte_sink.ByteSink.{Ghosts}
 use Rattle.svc_door.specs.declared.part.Part.{Part}
 use Rattle.svc_door.specs.Dues.{due_at, due_slots}
 use Rattle.svc_door.specs.Slots.{AreOpen, times}
@@ -144,66 +143,65 @@ never-due : (due : Option ℕ) (p : ℕ → Type 0) → is_some due ≡ false �
 never-due None p h d = d
 never-due (Some at) p h d = absurd (true≢false h)
 
-module _ {P : Type 0} {sinks : Ghosts P} where
-  -- the slot of a due part is in the list once, and that of any other part is not in it
-  open-is : (parts : Slab (Part P sinks)) (slots : List ℕ) → AreOpen parts slots → (slot : ℕ)
-      → ((is_some (due_at parts slot) ≡ true) × (times slot slots ≡ 1))
-      ⊎ ((is_some (due_at parts slot) ≡ false) × (times slot slots ≡ 0))
-  open-is parts slots o slot = ⊎_elim
-      (λ t. inl (t, o slot ∙ rw t refl)) (λ f. inr (f, o slot ∙ rw f refl)) (cases_Bool (is_some (due_at parts slot)))
+-- the slot of a due part is in the list once, and that of any other part is not in it
+open-is : (parts : Slab Part) (slots : List ℕ) → AreOpen parts slots → (slot : ℕ)
+    → ((is_some (due_at parts slot) ≡ true) × (times slot slots ≡ 1))
+    ⊎ ((is_some (due_at parts slot) ≡ false) × (times slot slots ≡ 0))
+open-is parts slots o slot = ⊎_elim
+    (λ t. inl (t, o slot ∙ rw t refl)) (λ f. inr (f, o slot ∙ rw f refl)) (cases_Bool (is_some (due_at parts slot)))
 
-  due-there : (cell : Option (Part P sinks)) → is_some (option_and_then (λ part. part.due) cell) ≡ true
-      → is_some cell ≡ true
-  due-there None h = h
-  due-there (Some part) h = refl
+due-there : (cell : Option Part) → is_some (option_and_then (λ part. part.due) cell) ≡ true
+    → is_some cell ≡ true
+due-there None h = h
+due-there (Some part) h = refl
 
-  -- a part that is not due does not change
-  turns-none : (now : ℕ) (cell : Option (Part P sinks)) → is_some (option_and_then (λ part. part.due) cell) ≡ false
-      → TurnsIfDue now cell cell
-  turns-none now None h = refl
-  turns-none now (Some part) h = inr (never-due part.due (λ due. due ≤ now) h, refl)
+-- a part that is not due does not change
+turns-none : (now : ℕ) (cell : Option Part) → is_some (option_and_then (λ part. part.due) cell) ≡ false
+    → TurnsIfDue now cell cell
+turns-none now None h = refl
+turns-none now (Some part) h = inr (never-due part.due (λ due. due ≤ now) h, refl)
 
-  -- the turns of the slots of all due parts
-  pub turned-each : (now : ℕ) (slots : List ℕ) (old new : Slab (Part P sinks)) → AreOpen old slots
-      → TurnsOf now slots old new → HaveTurns now old new
-  turned-each now slots old new o t slot = ⊎_elim
-      (λ due. (t slot).1 due.1)
-      (λ no. subst (TurnsIfDue now (get old slot)) (sym ((t slot).0 no.1)) (turns-none now (get old slot) no.0))
-      (open-is old slots o slot)
+-- the turns of the slots of all due parts
+pub turned-each : (now : ℕ) (slots : List ℕ) (old new : Slab Part) → AreOpen old slots
+    → TurnsOf now slots old new → HaveTurns now old new
+turned-each now slots old new o t slot = ⊎_elim
+    (λ due. (t slot).1 due.1)
+    (λ no. subst (TurnsIfDue now (get old slot)) (sym ((t slot).0 no.1)) (turns-none now (get old slot) no.0))
+    (open-is old slots o slot)
 
-  -- those that are due after them
-  pub open-turned : (now : ℕ) (slots : List ℕ) (old new : Slab (Part P sinks)) → AreOpen old slots
-      → TurnsOf now slots old new → AreOpen new (due_slots new slots)
-  open-turned now slots old new o t slot =
-      times-filter (λ other. is_some (due_at new other)) slot slots ∙ by (is_some (due_at new slot)) refl
-    where
-      by : (b : Bool) → is_some (due_at new slot) ≡ b → cond b (times slot slots) 0 ≡ cond b 1 0
-      by true is = ⊎_elim
-          (λ due. due.1)
-          (λ no. absurd (true≢false (sym is ∙ ap (λ cell. is_some (option_and_then (λ part. part.due) cell))
-          ((t slot).0 no.1) ∙ no.0)))
-          (open-is old slots o slot)
-      by false is = refl
+-- those that are due after them
+pub open-turned : (now : ℕ) (slots : List ℕ) (old new : Slab Part) → AreOpen old slots
+    → TurnsOf now slots old new → AreOpen new (due_slots new slots)
+open-turned now slots old new o t slot =
+    times-filter (λ other. is_some (due_at new other)) slot slots ∙ by (is_some (due_at new slot)) refl
+  where
+    by : (b : Bool) → is_some (due_at new slot) ≡ b → cond b (times slot slots) 0 ≡ cond b 1 0
+    by true is = ⊎_elim
+        (λ due. due.1)
+        (λ no. absurd (true≢false (sym is ∙ ap (λ cell. is_some (option_and_then (λ part. part.due) cell))
+        ((t slot).0 no.1) ∙ no.0)))
+        (open-is old slots o slot)
+    by false is = refl
 
-  -- those that are due after a part has left its slot
-  pub open-dismissed : (slots : List ℕ) (slot : ℕ) (old new : Slab (Part P sinks)) → AreOpen old slots
-      → get new slot ≡ None → ((other : ℕ) → other ≢ slot → get new other ≡ get old other)
-      → AreOpen new (filter (λ other. not (other == slot)) slots)
-  open-dismissed slots slot old new o free others other =
-      times-filter (λ x. not (x == slot)) other slots ∙ ⊎_elim
-      (λ s. let gone : get new other ≡ None = ap (get new) s.1 ∙ free in rw (s.0, gone) refl)
-      (λ s. let same = others other s.1 in rw (s.0, same) (o other))
-      (eqb_tells other slot)
+-- those that are due after a part has left its slot
+pub open-dismissed : (slots : List ℕ) (slot : ℕ) (old new : Slab Part) → AreOpen old slots
+    → get new slot ≡ None → ((other : ℕ) → other ≢ slot → get new other ≡ get old other)
+    → AreOpen new (filter (λ other. not (other == slot)) slots)
+open-dismissed slots slot old new o free others other =
+    times-filter (λ x. not (x == slot)) other slots ∙ ⊎_elim
+    (λ s. let gone : get new other ≡ None = ap (get new) s.1 ∙ free in rw (s.0, gone) refl)
+    (λ s. let same = others other s.1 in rw (s.0, same) (o other))
+    (eqb_tells other slot)
 
-  -- there is room for the slot of a part that is not due
-  pub room-for : (parts : Slab (Part P sinks)) (slots : List ℕ) (at room : ℕ) → AreOpen parts slots
-      → IsSome (get parts at) → is_some (due_at parts at) ≡ false → slab_len parts ≤ room → length slots < room
-  room-for parts slots at room o there idle within =
-      let fewer = fewer-slots parts.slots slots at once (o at ∙ rw idle refl) there in
-      omega (arith, fewer, within)
-    where
-      once : (slot : ℕ) → times slot slots ≤ cond (is_some (get parts slot)) 1 0
-      once slot = ⊎_elim
-          (λ due. rw (due-there (get parts slot) due.0) (omega (arith, due.1)))
-          (λ no. omega (arith, no.1))
-          (open-is parts slots o slot)
+-- there is room for the slot of a part that is not due
+pub room-for : (parts : Slab Part) (slots : List ℕ) (at room : ℕ) → AreOpen parts slots
+    → IsSome (get parts at) → is_some (due_at parts at) ≡ false → slab_len parts ≤ room → length slots < room
+room-for parts slots at room o there idle within =
+    let fewer = fewer-slots parts.slots slots at once (o at ∙ rw idle refl) there in
+    omega (arith, fewer, within)
+  where
+    once : (slot : ℕ) → times slot slots ≤ cond (is_some (get parts slot)) 1 0
+    once slot = ⊎_elim
+        (λ due. rw (due-there (get parts slot) due.0) (omega (arith, due.1)))
+        (λ no. omega (arith, no.1))
+        (open-is parts slots o slot)

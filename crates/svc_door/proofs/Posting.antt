@@ -1,14 +1,34 @@
 -- A connection continues: a byte is posted, bytes are read, or none are.
 use Rattle.std.proofs.Common.{◌≡◌, ℕ, Bool, ◌+◌, ◌<◌, ◌≤◌, List, [], ◌∷◌, ◌++◌, length, take, drop, slice_index, Option}
+use Rattle.std.proofs.Common.{All}
 use Rattle.std.proofs.Common.{refl, sym, ap, ◌∙◌, subst, append_assoc, append-nil, add-one, arith, length-append}
 use Rattle.std.proofs.Math.Seq.{drop-cons}
 use Rattle.std.specs.List.{concat}
 use Rattle.std.specs.Io.KnownBytes.{Consumes}
 use Rattle.std.proofs.lemmas.List.{get_or-take, length-drop, length-take-le}
 use Rattle.tai_status.proofs.Stamped.{Consumes-then, Consumes-none}
+use Rattle.svc_mail.specs.declared.sender.Sender.{Sender}
+use Rattle.svc_mail.specs.History.{IsAmong, StartsWith, row_of}
+use Rattle.svc_mail.specs.Ends.{IsSameSender, IsUnchangedSender, WasFull}
 use Rattle.svc_door.specs.declared.connection.TheConstants.{MOST}
 use Rattle.svc_door.specs.declared.byte_source.Heard.{Heard}
 use Rattle.svc_door.specs.Connection.{ConnectionState, GoesOn, Posts, GoesOnAlong, HasPosted, HasPostedLast, beginning}
+
+pub same-sender-then : {A : Type 0} (a b c : Sender ℕ A) → IsSameSender a b → IsSameSender b c → IsSameSender a c
+same-sender-then a b c p q = (q.0 ∙ p.0, q.1 ∙ p.1, q.2 ∙ p.2, q.3 ∙ p.3)
+
+-- a sender that posted, saw and learnt nothing more was full as before
+pub was-full-same : {A : Type 0} (old new : Sender ℕ A) → IsUnchangedSender old new → WasFull old → WasFull new
+was-full-same old new same full = (
+  full.0,
+  full.1,
+  full.2 ∙ sym same.0.2,
+  full.3,
+  subst (λ all. IsAmong all (full.0 ++ full.1)) (sym same.0.3) full.4,
+  same.1 ∙ full.5 ∙ ap (λ number. row_of number (full.0 ++ full.1)) (sym same.0.1),
+  subst (StartsWith (full.0 ++ full.1)) (sym same.2) full.6,
+  subst (All (StartsWith full.0)) (sym same.3) full.7,
+)
 
 -- the first byte that is kept
 pub kept-first : (piece : List ℕ) (from to : ℕ) → from < to → to ≤ length piece

@@ -44,7 +44,7 @@ pub record GoesOn (posted : List ℕ) (old new : ConnectionState) : Type 0 where
   -- What was kept comes first, followed by what it gave. A prefix of this is posted, and the rest is kept.
   pub order : posted ++ new.kept ≡ old.kept ++ read
 
--- A sink that had accepted the bytes `before` has accepted the bytes `after`: the connection posted all that came after
+-- A sender that had posted the bytes `before` has posted the bytes `after`: the connection posted all that came after
 -- them.
 pub record Posts (before after : List ℕ) (old new : ConnectionState) : Type 0 where
   pub posted : List ℕ
@@ -99,7 +99,7 @@ pub record HasPosted (opening : Option (List ℕ)) (posted : List ℕ) (v : Conn
   pub count : length (posted ++ v.kept) ≡ v.taken
   pub most : v.taken ≤ MOST
 
--- The bytes that the sink accepted last are those that were posted from the connection since it began.
+-- The bytes that the sender posted last are those that were posted from the connection since it began.
 pub record HasPostedLast (accepted : List ℕ) (v : ConnectionState) : Type 0 where
   pub before : List ℕ
   pub posted : List ℕ

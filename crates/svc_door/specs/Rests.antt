@@ -30,7 +30,7 @@ refused_until Interrupted now = Some now
 refused_until ConnectionAborted now = Some now
 refused_until _ now = Some (after now SHORTAGE)
 
--- when a connection last gave bytes; this is now, if it gave bytes or some of its bytes still wait for the sink
+-- when a connection last gave bytes; this is now, if it gave bytes or some of its bytes still wait for the sender
 abbrev pub spoke_at : Turn → (gave : Bool) → (spoke now : ℕ) → ℕ
 spoke_at Full gave spoke now = now
 spoke_at Waits gave spoke now = if gave then now else spoke

@@ -17,7 +17,7 @@ IsRefused listener now due = (kind : ErrorKind) × (listener.refused ≡ Some ki
 abbrev pub Greets : Listener → (now : ℕ) → Option ℕ → Type 0
 Greets ok now due = ((ok.given ≡ GREETED) × (due ≡ Some now)) ⊎ ((ok.given < GREETED) × IsRefused ok now due)
 
--- A connection had its turn: what it posted came after what the sink had accepted. Either it stays, and the state in
+-- A connection had its turn: what it posted came after what the sender had posted. Either it stays, and the state in
 -- which the turn left it decides when the door looks at it again; or it is over, and the next one is looked for at
 -- once.
 pub record HasTurn (before after : List ℕ) (now : ℕ) (old : ConnectionState) (new : Option ConnectionState) (due : ℕ)

@@ -1,9 +1,9 @@
 //! What one connection does.
-use crate::byte_sink::ByteSink;
 use crate::byte_source::{ByteSource, Heard};
 use crate::rests::{next_look, spoken};
 use std::marker::Model;
 use std::sync::Wait;
+use svc_house::ControlSender;
 use svc_mail::letter::Full;
 
 /// The most bytes that are read from a connection. After them it is over.
@@ -17,14 +17,14 @@ pub const PIECE: usize = 64;
 pub enum Turn {
     /// All that was read is posted, and the connection has no bytes for now.
     Waits,
-    /// The sink refused a byte. It is kept, and comes first in the next turn.
+    /// The mailbox was full, and refused a byte. It is kept, and comes first in the next turn.
     Full,
     /// All that was read is posted. Either the connection has ended or failed, or 4096 bytes from it were posted.
     Ended,
 }
 
-/// One connection that gives control bytes, and when it last gave some. Each turn lends it a sink. Contracts see it as
-/// `ConnectionState`. `law::turns_post_the_first_bytes` states what its turns do together.
+/// One connection that gives control bytes, and when it last gave some. Each turn lends it the sender of a mailbox.
+/// Contracts see it as `ConnectionState`. `law::turns_post_the_first_bytes` states what its turns do together.
 #[derive(Drop)]
 pub struct Connection<G: ByteSource> {
     source: G,
@@ -61,6 +61,8 @@ impl<G: ByteSource> Model for Connection<G> {
 impl<G: ByteSource> Connection<G> {
     ghost use Rattle.std.specs.Prelude.{◌≡◌, ◌≤◌, ◌<◌, ◌+◌, [], length, nat_lt, true, false};
     ghost use Rattle.std.specs.Io.KnownBytes.{Consumes};
+    ghost use Rattle.svc_mail.specs.Ends.{IsSameSender, WasFull};
+    ghost use Rattle.svc_house.specs.Mail.{posted_by, sender_in};
     ghost use Rattle.svc_door.specs.Connection.{IsLeft, Posts, Reads, Said, beginning};
     ghost use Rattle.svc_door.specs.Rests.{spoke_at, looked_at};
     ghost use Rattle.svc_door.specs.declared.connection.TheConstants.{MOST};
@@ -82,21 +84,21 @@ impl<G: ByteSource> Connection<G> {
         }
     }
 
-    /// Reads what the connection has, and posts it byte by byte. It may wait as the sink may, and needs no memory.
+    /// Reads what the connection has, and posts it byte by byte. It needs no memory.
     ///
-    /// `Waits` is returned only if the connection had no bytes for now. `Full` is returned only if the sink refused the
-    /// next byte: it is kept, and nothing is read before it is posted. `Ended` is returned exactly if 4096 bytes were
-    /// posted, or the connection ended or failed. A further turn reads again, if fewer than 4096 bytes were read.
-    pub fn turn<R: Wait, P: ByteSink>(&mut self, rt: &R, sink: &mut P, now: u64) -> Turn
-        ensures posts { Posts (P.accepted sink.old) (P.accepted sink.new) self.old self.new }
-        ensures home { P.home sink.new ≡ P.home sink.old }
+    /// `Waits` is returned only if the connection had no bytes for now. `Full` is returned only if the mailbox was full at
+    /// the next byte: it is kept, and nothing is read before it is posted. `Ended` is returned exactly if 4096 bytes
+    /// were posted, or the connection ended or failed. A further turn reads again, if fewer than 4096 bytes were read.
+    pub fn turn<R: Wait>(&mut self, rt: &R, sender: &mut ControlSender, now: u64) -> Turn
+        ensures posts { Posts (posted_by sender.old) (posted_by sender.new) self.old self.new }
+        ensures same_sender { IsSameSender (sender_in sender.old) (sender_in sender.new) }
         ensures left { IsLeft result self.new }
-        ensures full { result ≡ turn.Full → (at : P) × P.was_full at × (P.accepted at ≡ P.accepted sink.new) }
+        ensures full { result ≡ turn.Full → WasFull (sender_in sender.new) }
         ensures spoke { self.new.spoke ≡ spoke_at result (nat_lt self.old.taken self.new.taken) self.old.spoke now }
         ensures watched { self.new.watched ≡ self.old.watched }
     {
         let before = self.taken;
-        let turn = self.serve(rt, sink);
+        let turn = self.serve(rt, sender);
         self.spoke = spoken(turn, self.taken > before, self.spoke, now);
         turn
     }
@@ -110,20 +112,20 @@ impl<G: ByteSource> Connection<G> {
     }
 
     // Reads what the connection has, and posts it.
-    fn serve<R: Wait, P: ByteSink>(&mut self, rt: &R, sink: &mut P) -> Turn
-        ensures posts { Posts (P.accepted sink.old) (P.accepted sink.new) self.old self.new }
-        ensures home { P.home sink.new ≡ P.home sink.old }
+    fn serve<R: Wait>(&mut self, rt: &R, sender: &mut ControlSender) -> Turn
+        ensures posts { Posts (posted_by sender.old) (posted_by sender.new) self.old self.new }
+        ensures same_sender { IsSameSender (sender_in sender.old) (sender_in sender.new) }
         ensures left { IsLeft result self.new }
-        ensures full { result ≡ turn.Full → (at : P) × P.was_full at × (P.accepted at ≡ P.accepted sink.new) }
+        ensures full { result ≡ turn.Full → WasFull (sender_in sender.new) }
         ensures same { (self.new.spoke ≡ self.old.spoke) × (self.new.watched ≡ self.old.watched) }
     {
-        if !self.post_kept(rt, sink) {
+        if !self.post_kept(rt, sender) {
             return Turn::Full;
         }
         while self.taken < MOST {
             match self.read() {
                 Heard::Bytes(_) => {
-                    if !self.post_kept(rt, sink) {
+                    if !self.post_kept(rt, sender) {
                         return Turn::Full;
                     }
                 }
@@ -135,18 +137,18 @@ impl<G: ByteSource> Connection<G> {
     }
 
     // Posts what is kept. Returns whether all of it was accepted.
-    fn post_kept<R: Wait, P: ByteSink>(&mut self, rt: &R, sink: &mut P) -> bool
-        ensures posts { Posts (P.accepted sink.old) (P.accepted sink.new) self.old self.new }
-        ensures home { P.home sink.new ≡ P.home sink.old }
+    fn post_kept<R: Wait>(&mut self, rt: &R, sender: &mut ControlSender) -> bool
+        ensures posts { Posts (posted_by sender.old) (posted_by sender.new) self.old self.new }
+        ensures same_sender { IsSameSender (sender_in sender.old) (sender_in sender.new) }
         ensures unread { (self.new.left ≡ self.old.left) × (self.new.said ≡ self.old.said)
             × (self.new.taken ≡ self.old.taken) }
         ensures same { (self.new.spoke ≡ self.old.spoke) × (self.new.watched ≡ self.old.watched) }
         ensures all { result ≡ true → self.new.kept ≡ [] }
         ensures some { result ≡ false → 0 < length self.new.kept }
-        ensures full { result ≡ false → (at : P) × P.was_full at × (P.accepted at ≡ P.accepted sink.new) }
+        ensures full { result ≡ false → WasFull (sender_in sender.new) }
     {
         while self.from < self.to {
-            match sink.post(rt, self.piece[self.from]) {
+            match sender.post(rt, self.piece[self.from]) {
                 Ok(()) => self.from += 1,
                 Err(Full(_byte)) => return false,
             }

@@ -1,5 +1,4 @@
 //! The door's thread, and the handle to it.
-use crate::byte_sink::ByteSink;
 use crate::rests::{in_millis, poll_limit};
 use crate::table::{Next, NotAdmitted, Table, WAKER};
 use mio::net::UnixListener;
@@ -10,6 +9,7 @@ use std::sync::{Arc, Mutex, Wait};
 use std::thread::{Builder, JoinHandle, Threads};
 use std::time::{Clock, Duration};
 use std::{io, thread};
+use svc_house::{ControlSender, Runtime};
 
 /// The most events that one poll gives.
 const EVENTS: usize = 256;
@@ -19,8 +19,8 @@ const FAILED: u64 = 100;
 
 // What the handle and the thread share.
 #[derive(Drop)]
-struct DoorShared<P: ByteSink> {
-    table: Mutex<Table<P>>,
+struct DoorShared {
+    table: Mutex<Table>,
     registry: Registry,
     waker: Waker,
 }
@@ -29,19 +29,16 @@ struct DoorShared<P: ByteSink> {
 ///
 /// A door that is dropped without being closed continues with its parts as long as the process runs.
 #[derive(Drop)]
-pub struct Door<P: ByteSink> {
-    shared: Arc<DoorShared<P>, Global>,
+pub struct Door {
+    shared: Arc<DoorShared, Global>,
     thread: JoinHandle<()>,
 }
 
-impl<P: ByteSink + Send + Drop + 'static> Door<P> {
+impl Door {
     ghost use Rattle.std.specs.Prelude.{◌≡◌, IfErr};
 
     /// Opens a door with no part, and starts its thread.
-    pub fn open<R>(rt: &R, alloc: Global) -> io::Result<Door<P>>
-    where
-        R: Net + Threads + Wait + Clock + Copy + Send + Drop + 'static,
-    {
+    pub fn open<R: Net + Runtime>(rt: &R, alloc: Global) -> io::Result<Door> {
         let poll = Poll::new(rt)?;
         let events = Events::with_capacity(alloc, EVENTS)?;
         let shared = Arc::new(
@@ -60,26 +57,26 @@ impl<P: ByteSink + Send + Drop + 'static> Door<P> {
     /// Serves the sockets of a part from now on. `number` names the part, and no other part at the door has it.
     ///
     /// After a fault, such as a lack of memory, nothing of the part is at the door, both listeners are closed, and the
-    /// sink is given back.
+    /// sender is given back.
     pub fn admit<R: Wait>(
         &self,
         rt: &R,
         number: u64,
-        sink: P,
+        sender: ControlSender,
         control: UnixListener,
         ok: UnixListener,
-    ) -> Result<(), NotAdmitted<P>>
-        ensures sink { IfErr result (λ refused. refused.sink ≡ sink) }
+    ) -> Result<(), NotAdmitted>
+        ensures sender { IfErr result (λ refused. refused.sender ≡ sender) }
     {
         self.shared
             .table
             .lock(rt)
-            .admit(number, sink, control, ok, &self.shared.registry)
+            .admit(number, sender, control, ok, &self.shared.registry)
     }
 
-    /// Closes the listeners and the connection of a part, and returns its sink: nothing more is posted through it.
+    /// Closes the listeners and the connection of a part, and returns its sender: nothing more is posted through it.
     /// `None`: no part with this number is at the door.
-    pub fn dismiss<R: Wait>(&self, rt: &R, number: u64) -> Option<P> {
+    pub fn dismiss<R: Wait>(&self, rt: &R, number: u64) -> Option<ControlSender> {
         self.shared.table.lock(rt).dismiss(number)
     }
 
@@ -98,28 +95,19 @@ fn time(clock: &impl Clock) -> u64 {
 }
 
 /// Starts the door's thread.
-fn start<R, P>(
+fn start<R: Runtime>(
     rt: R,
     poll: Poll,
     events: Events<Global>,
-    shared: Arc<DoorShared<P>, Global>,
-) -> io::Result<JoinHandle<()>>
-where
-    R: Threads + Wait + Clock + Copy + Send + Drop + 'static,
-    P: ByteSink + Send + Drop + 'static,
-{
+    shared: Arc<DoorShared, Global>,
+) -> io::Result<JoinHandle<()>> {
     Builder::new()
         .stack_size(1)
         .spawn(&rt, move || run(&rt, poll, events, &shared))
 }
 
 /// Runs the door's thread.
-fn run<R: Wait + Clock, P: ByteSink + Drop>(
-    rt: &R,
-    mut poll: Poll,
-    mut events: Events<Global>,
-    shared: &DoorShared<P>,
-) {
+fn run<R: Wait + Clock>(rt: &R, mut poll: Poll, mut events: Events<Global>, shared: &DoorShared) {
     let mut due: Option<u64> = None;
     for _ in rt.forever() {
         let limit = poll_limit(due, time(rt));

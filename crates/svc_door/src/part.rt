@@ -1,8 +1,8 @@
 //! One part at the door.
 ghost use Rattle.std.specs.Prelude.{IfSome};
+ghost use Rattle.svc_house.specs.Mail.{posted_by};
 ghost use Rattle.svc_door.specs.Connection.{HasPostedLast};
 
-use crate::byte_sink::ByteSink;
 use crate::connection::Connection;
 use crate::greeting::greet;
 use crate::listener::Listener;
@@ -11,10 +11,11 @@ use mio::net::{UnixListener, UnixStream};
 use mio::{Interest, Registry, Token};
 use std::io;
 use std::sync::Wait;
+use svc_house::ControlSender;
 
 /// A part: its two listeners, and its control connection, if there is one.
 #[derive(Drop)]
-pub struct Part<P: ByteSink> {
+pub struct Part {
     /// The number of its life.
     pub number: u64,
     /// The token of its listeners and of its connection, which their events name.
@@ -23,15 +24,17 @@ pub struct Part<P: ByteSink> {
     pub due: Option<u64>,
     control: Listener,
     ok: Listener,
-    sink: P,
+    sender: ControlSender,
     connection: Option<Connection<UnixStream>>,
-    ghost posted: { ∥ IfSome connection (HasPostedLast (P.accepted sink)) ∥₁ },
+    ghost posted: { ∥ IfSome connection (HasPostedLast (posted_by sender)) ∥₁ },
 }
 
-impl<P: ByteSink + Drop> Part<P> {
+impl Part {
     ghost use Rattle.std.specs.IoError.{error_kind};
     ghost use Rattle.std.specs.Prelude.{◌≡◌, ◌↔◌, ◌≤◌, IsTrue, IsNone, IsSome, IsSomeAnd, Some, None, IfErr, OnOk};
     ghost use Rattle.std.specs.Prelude.{OnErr};
+    ghost use Rattle.svc_mail.specs.Ends.{IsSameSender};
+    ghost use Rattle.svc_house.specs.Mail.{posted_by, sender_in};
     ghost use Rattle.svc_door.specs.Connection.{ConnectionState};
     ghost use Rattle.svc_door.specs.Listening.{IsSame};
     ghost use Rattle.svc_door.specs.Looks.{LooksAgainAt, HasClosed};
@@ -41,13 +44,13 @@ impl<P: ByteSink + Drop> Part<P> {
     pub fn new(
         number: u64,
         token: Token,
-        sink: P,
+        sender: ControlSender,
         control: UnixListener,
         ok: UnixListener,
-    ) -> Part<P>
+    ) -> Part
         ensures number { result.number ≡ number }
         ensures token { result.token ≡ token }
-        ensures sink { result.sink ≡ sink }
+        ensures sender { result.sender ≡ sender }
         ensures due { result.due ≡ None }
         ensures connection { result.connection ≡ None }
         ensures listeners { (result.control.socket ≡ control) × (result.ok.socket ≡ ok) }
@@ -58,7 +61,7 @@ impl<P: ByteSink + Drop> Part<P> {
             due: None,
             control: Listener::new(control),
             ok: Listener::new(ok),
-            sink,
+            sender,
             connection: None,
         }
     }
@@ -67,7 +70,7 @@ impl<P: ByteSink + Drop> Part<P> {
     pub fn register(&mut self, registry: &Registry) -> io::Result<()>
         ensures token { self.new.token ≡ self.old.token }
         ensures number { self.new.number ≡ self.old.number }
-        ensures sink { self.new.sink ≡ self.old.sink }
+        ensures sender { self.new.sender ≡ self.old.sender }
         ensures due { self.new.due ≡ self.old.due }
         ensures connection { self.new.connection ≡ self.old.connection }
         ensures sockets { (self.new.control.socket ≡ self.old.control.socket)
@@ -79,12 +82,12 @@ impl<P: ByteSink + Drop> Part<P> {
         self.ok.register(registry, self.token)
     }
 
-    /// Returns the sink. Closes the listeners and the connection.
-    pub fn into_sink(self) -> P
-        ensures { result ≡ self.sink }
+    /// Returns the sender. Closes the listeners and the connection.
+    pub fn into_sender(self) -> ControlSender
+        ensures { result ≡ self.sender }
     {
-        let Part { sink, .. } = self;
-        sink
+        let Part { sender, .. } = self;
+        sender
     }
 
     /// Returns whether the part has its turn now.
@@ -105,9 +108,9 @@ impl<P: ByteSink + Drop> Part<P> {
         ensures due { IsSome self.new.connection → IsSome self.new.due }
         ensures next { HasClosed self.old.connection self.new.connection
             → IsSomeAnd self.new.due (λ due. due ≤ now) }
-        ensures takes { TakesTurn (P.accepted self.old.sink) (P.accepted self.new.sink) now
+        ensures takes { TakesTurn (posted_by self.old.sender) (posted_by self.new.sender) now
             self.new.ok self.new.control self.old.connection self.new.connection self.new.due }
-        ensures home { P.home self.new.sink ≡ P.home self.old.sink }
+        ensures same_sender { IsSameSender (sender_in self.old.sender) (sender_in self.new.sender) }
         ensures number { self.new.number ≡ self.old.number }
         ensures token { self.new.token ≡ self.old.token }
         ensures listeners { IsSame self.old.control self.new.control × IsSame self.old.ok self.new.ok }
@@ -120,9 +123,9 @@ impl<P: ByteSink + Drop> Part<P> {
     fn serve<R: Wait>(&mut self, rt: &R, registry: &Registry, now: u64) -> Option<u64>
         ensures due { IsSome self.new.connection → IsSome result }
         ensures next { HasClosed self.old.connection self.new.connection → result ≡ Some now }
-        ensures serves { Serves (P.accepted self.old.sink) (P.accepted self.new.sink) now
+        ensures serves { Serves (posted_by self.old.sender) (posted_by self.new.sender) now
             self.new.control self.old.connection self.new.connection result }
-        ensures home { P.home self.new.sink ≡ P.home self.old.sink }
+        ensures same_sender { IsSameSender (sender_in self.old.sender) (sender_in self.new.sender) }
         ensures number { self.new.number ≡ self.old.number }
         ensures token { self.new.token ≡ self.old.token }
         ensures listeners { IsSame self.old.control self.new.control × (self.new.ok ≡ self.old.ok) }
@@ -139,7 +142,7 @@ impl<P: ByteSink + Drop> Part<P> {
             × (self.new.connection ≡ Some connection) × GoesOnWith now self.old.connection connection) }
         ensures none { OnErr result ((self.old.connection ≡ None) × (self.new.connection ≡ None)) }
         ensures refused { IfErr result (λ fault. self.new.control.refused ≡ Some (error_kind fault)) }
-        ensures sink { self.new.sink ≡ self.old.sink }
+        ensures sender { self.new.sender ≡ self.old.sender }
         ensures number { self.new.number ≡ self.old.number }
         ensures token { self.new.token ≡ self.old.token }
         ensures listeners { IsSame self.old.control self.new.control × (self.new.ok ≡ self.old.ok) }
@@ -154,7 +157,7 @@ impl<P: ByteSink + Drop> Part<P> {
     fn begin(&mut self, mut stream: UnixStream, registry: &Registry, now: u64)
         ensures begins { (connection : ConnectionState)
             × (self.new.connection ≡ Some connection) × GoesOnWith now None connection }
-        ensures sink { self.new.sink ≡ self.old.sink }
+        ensures sender { self.new.sender ≡ self.old.sender }
         ensures number { self.new.number ≡ self.old.number }
         ensures token { self.new.token ≡ self.old.token }
         ensures listeners { (self.new.control ≡ self.old.control) × (self.new.ok ≡ self.old.ok) }
@@ -170,8 +173,8 @@ impl<P: ByteSink + Drop> Part<P> {
         ensures over { IsNone self.new.connection → result ≡ now }
         ensures looks { LooksAgainAt self.old.connection self.new.connection now result }
         ensures hears { (old : ConnectionState) → self.old.connection ≡ Some old
-            → HasTurn (P.accepted self.old.sink) (P.accepted self.new.sink) now old self.new.connection result }
-        ensures home { P.home self.new.sink ≡ P.home self.old.sink }
+            → HasTurn (posted_by self.old.sender) (posted_by self.new.sender) now old self.new.connection result }
+        ensures same_sender { IsSameSender (sender_in self.old.sender) (sender_in self.new.sender) }
         ensures number { self.new.number ≡ self.old.number }
         ensures token { self.new.token ≡ self.old.token }
         ensures listeners { (self.new.control ≡ self.old.control) × (self.new.ok ≡ self.old.ok) }
@@ -179,7 +182,7 @@ impl<P: ByteSink + Drop> Part<P> {
         let Some(connection) = &mut self.connection else {
             return now;
         };
-        let turn = connection.turn(rt, &mut self.sink, now);
+        let turn = connection.turn(rt, &mut self.sender, now);
         match connection.next_look(turn, now) {
             Some(due) => due,
             None => {

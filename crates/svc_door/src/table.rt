@@ -8,7 +8,6 @@ ghost use Rattle.svc_door.specs.Turning.{HasRound, HaveTurns, TurnsIfDue, TurnsO
 ghost use Rattle.mio.specs.Events.{items};
 ghost use Rattle.svc_door.specs.declared.table.Next.TheVariants as next;
 
-use crate::byte_sink::ByteSink;
 use crate::part::Part;
 use crate::rests::sooner;
 use mio::net::UnixListener;
@@ -17,15 +16,16 @@ use slab::Slab;
 use std::alloc::Global;
 use std::io;
 use std::sync::Wait;
+use svc_house::ControlSender;
 
 /// The token of the door's own waker. The token of a part is the number of its slot, which is less.
 pub const WAKER: Token = Token(usize::MAX);
 
 /// What is given back for a part that was not admitted.
 #[derive(Drop)]
-pub struct NotAdmitted<P: ByteSink> {
+pub struct NotAdmitted {
     /// The destination of its control bytes.
-    pub sink: P,
+    pub sender: ControlSender,
     /// Why it was not admitted.
     pub fault: io::Error,
 }
@@ -41,17 +41,17 @@ pub enum Next {
 
 /// The parts, each in a slot, and the slots of those that have a turn without an event.
 #[derive(Drop)]
-pub struct Table<P: ByteSink> {
+pub struct Table {
     ends: bool,
-    parts: Slab<Part<P>>,
+    parts: Slab<Part>,
     open_slots: Vec<usize>,
     ghost each: { AreOpen parts open_slots.items },
     ghost room: { slab_len parts ≤ vec_capacity open_slots },
 }
 
-impl<P: ByteSink + Drop> Table<P> {
+impl Table {
     /// Returns a table with no part.
-    pub fn new(alloc: Global) -> Table<P>
+    pub fn new(alloc: Global) -> Table
         ensures parts { (slot : ℕ) → get result.parts slot ≡ None }
         ensures ends { result.ends ≡ false }
     {
@@ -63,37 +63,37 @@ impl<P: ByteSink + Drop> Table<P> {
     }
 
     /// Makes the registry watch a part that begins, and puts the part into a slot. After a fault the slots are as they
-    /// were, and the part's sink is given back.
+    /// were, and the part's sender is given back.
     pub fn admit(
         &mut self,
         number: u64,
-        sink: P,
+        sender: ControlSender,
         control: UnixListener,
         ok: UnixListener,
         registry: &Registry,
-    ) -> Result<(), NotAdmitted<P>>
-        ensures admitted { OnOk result (Admits number sink control ok self.old.parts self.new.parts) }
+    ) -> Result<(), NotAdmitted>
+        ensures admitted { OnOk result (Admits number sender control ok self.old.parts self.new.parts) }
         ensures refused { OnErr result ((slot : ℕ) → get self.new.parts slot ≡ get self.old.parts slot) }
-        ensures sink { IfErr result (λ refused. refused.sink ≡ sink) }
+        ensures sender { IfErr result (λ refused. refused.sender ≡ sender) }
         ensures open { self.new.open_slots.items ≡ self.old.open_slots.items }
         ensures ends { self.new.ends ≡ self.old.ends }
     {
         let token = Token(self.parts.vacant_key());
-        let mut part = Part::new(number, token, sink, control, ok);
+        let mut part = Part::new(number, token, sender, control, ok);
         match self.watch(&mut part, registry) {
             Ok(()) => {
                 self.parts.insert_reserved(part);
                 Ok(())
             }
             Err(fault) => Err(NotAdmitted {
-                sink: part.into_sink(),
+                sender: part.into_sender(),
                 fault,
             }),
         }
     }
 
     // Makes the registry watch a part, after there is room for it and for its turns.
-    fn watch(&mut self, part: &mut Part<P>, registry: &Registry) -> io::Result<()>
+    fn watch(&mut self, part: &mut Part, registry: &Registry) -> io::Result<()>
         ensures room { OnOk result (HasRoomFor self.new.parts 1) }
         ensures room_for_turns { OnOk result (slab_len self.new.parts + 1 ≤ vec_capacity self.new.open_slots) }
         ensures parts { (slot : ℕ) → get self.new.parts slot ≡ get self.old.parts slot }
@@ -102,7 +102,7 @@ impl<P: ByteSink + Drop> Table<P> {
         ensures ends { self.new.ends ≡ self.old.ends }
         ensures token { part.new.token ≡ part.old.token }
         ensures number { part.new.number ≡ part.old.number }
-        ensures sink { part.new.sink ≡ part.old.sink }
+        ensures sender { part.new.sender ≡ part.old.sender }
         ensures due { part.new.due ≡ part.old.due }
         ensures connection { part.new.connection ≡ part.old.connection }
         ensures sockets { (part.new.control.socket ≡ part.old.control.socket)
@@ -120,9 +120,9 @@ impl<P: ByteSink + Drop> Table<P> {
         part.register(registry)
     }
 
-    /// Takes the part of a life out of its slot, and returns its sink. `None`: no part has this number.
-    pub fn dismiss(&mut self, number: u64) -> Option<P>
-        ensures dismissed { IfSome result (λ sink. Dismisses number sink self.old.parts self.new.parts
+    /// Takes the part of a life out of its slot, and returns its sender. `None`: no part has this number.
+    pub fn dismiss(&mut self, number: u64) -> Option<ControlSender>
+        ensures dismissed { IfSome result (λ sender. Dismisses number sender self.old.parts self.new.parts
             self.old.open_slots.items self.new.open_slots.items) }
         ensures none { IfNone result ((slot : ℕ) → get self.new.parts slot ≡ get self.old.parts slot) }
         ensures ends { self.new.ends ≡ self.old.ends }
@@ -131,7 +131,7 @@ impl<P: ByteSink + Drop> Table<P> {
         let slot = self.slot_of(number)?;
         let part = self.parts.try_remove(slot)?;
         self.open_slots.retain(|other| *other != slot);
-        Some(part.into_sink())
+        Some(part.into_sender())
     }
 
     fn slot_of(&self, number: u64) -> Option<usize>
@@ -216,9 +216,9 @@ impl<P: ByteSink + Drop> Table<P> {
 }
 
 /// Gives each part of these slots its turn, if it is due.
-fn turn_each<R: Wait, P: ByteSink + Drop>(
+fn turn_each<R: Wait>(
     rt: &R,
-    parts: &mut Slab<Part<P>>,
+    parts: &mut Slab<Part>,
     registry: &Registry,
     slots: &[usize],
     now: u64,
@@ -232,13 +232,7 @@ fn turn_each<R: Wait, P: ByteSink + Drop>(
 }
 
 /// Gives a part its turn, if it is due.
-fn turn<R: Wait, P: ByteSink + Drop>(
-    rt: &R,
-    parts: &mut Slab<Part<P>>,
-    registry: &Registry,
-    slot: usize,
-    now: u64,
-)
+fn turn<R: Wait>(rt: &R, parts: &mut Slab<Part>, registry: &Registry, slot: usize, now: u64)
     ensures there { TurnsIfDue now (get parts.old slot) (get parts.new slot) }
     ensures others { (other : ℕ) → other ≢ slot → get parts.new other ≡ get parts.old other }
     ensures len { slab_len parts.new ≡ slab_len parts.old }
@@ -251,7 +245,7 @@ fn turn<R: Wait, P: ByteSink + Drop>(
 }
 
 /// Makes the part in a slot due now.
-fn make_due<P: ByteSink + Drop>(parts: &mut Slab<Part<P>>, slot: usize, now: u64)
+fn make_due(parts: &mut Slab<Part>, slot: usize, now: u64)
     ensures wakes { Wakes now (get parts.old slot) (get parts.new slot) }
     ensures others { (other : ℕ) → other ≢ slot → get parts.new other ≡ get parts.old other }
     ensures len { slab_len parts.new ≡ slab_len parts.old }
@@ -262,7 +256,7 @@ fn make_due<P: ByteSink + Drop>(parts: &mut Slab<Part<P>>, slot: usize, now: u64
 }
 
 /// Returns when the part in a slot is due.
-fn due_at<P: ByteSink + Drop>(parts: &Slab<Part<P>>, slot: usize) -> Option<u64>
+fn due_at(parts: &Slab<Part>, slot: usize) -> Option<u64>
     ensures { result ≡ due_at parts.now slot }
 {
     match parts.get(slot) {
@@ -272,7 +266,7 @@ fn due_at<P: ByteSink + Drop>(parts: &Slab<Part<P>>, slot: usize) -> Option<u64>
 }
 
 /// Removes the slots with parts that are not due.
-fn keep_due<P: ByteSink + Drop>(parts: &Slab<Part<P>>, slots: &mut Vec<usize>)
+fn keep_due(parts: &Slab<Part>, slots: &mut Vec<usize>)
     ensures due { slots.new.items ≡ due_slots parts.now slots.old.items }
     ensures room { vec_capacity slots.new ≡ vec_capacity slots.old }
 {
@@ -280,7 +274,7 @@ fn keep_due<P: ByteSink + Drop>(parts: &Slab<Part<P>>, slots: &mut Vec<usize>)
 }
 
 /// Returns when the first of these slots is due.
-fn soonest_due<P: ByteSink + Drop>(parts: &Slab<Part<P>>, slots: &[usize]) -> Option<u64>
+fn soonest_due(parts: &Slab<Part>, slots: &[usize]) -> Option<u64>
     ensures { result ≡ soonest_due parts.now slots.now }
 {
     let mut soonest = None;

@@ -10,6 +10,7 @@ use Rattle.tai_status.specs.declared.phase.Phase.TheVariants as phase
 use Rattle.scan_table.specs.declared.part.Role.{Role}
 use Rattle.scan_table.specs.declared.part.Role.TheVariants.{Main, Log}
 use Rattle.svc_host.specs.Parts.{GoOn, HasPosted, HostPart, IsRead, IsRefused, history_of, runs_at, service_runs}
+use Rattle.svc_host.specs.declared.ending.TheConstants.{LOGGER_MILLIS}
 use Rattle.svc_host.specs.declared.ending.EndStep.{EndStep}
 use Rattle.svc_host.specs.declared.ending.EndStep.TheVariants.{Stop, Exit, Wait}
 use Rattle.svc_host.specs.declared.ending.ProcessSight.{ProcessSight}
@@ -21,7 +22,7 @@ use Rattle.svc_host.specs.declared.ending.ProcessSight.TheVariants.{Lives, Comes
 abbrev pub end_step : Role → (service_runs is_adopted : Bool) → (waited : ℕ) → EndStep
 end_step Main service_runs is_adopted waited = Stop
 end_step Log true is_adopted waited = Wait
-end_step Log false is_adopted waited = if nat_le 5000 waited then Stop else if is_adopted then Wait else Exit
+end_step Log false is_adopted waited = if nat_le LOGGER_MILLIS waited then Stop else if is_adopted then Wait else Exit
 
 abbrev pub is_log : Role → Bool
 is_log Main = false

@@ -1,7 +1,7 @@
 //! What makes and starts parts and pairs.
-ghost use Rattle.std.specs.Prelude.{◌≡◌, ◌≤◌, ◌<◌, [], ◌∷◌, IfOk, MatchBool, Some, length};
+ghost use Rattle.std.specs.Prelude.{◌≡◌, ◌≤◌, ◌<◌, IfOk, MatchBool, Some, length};
 ghost use Rattle.std.specs.Result.{result_err};
-ghost use Rattle.svc_house.specs.Calls.{ExtendedWhileKept};
+ghost use Rattle.svc_house.specs.Calls.{MadeWhileKept};
 ghost use Rattle.svc_host.specs.Calls.{AsksByName, AsksPart, ForgotSlot, HandsOutNone, HandsOutOne, HandsTrace, KeptTrace};
 ghost use Rattle.svc_host.specs.Calls.{StartsIfPair, StartsPair, has_pair, opening_in, pairs_without};
 ghost use Rattle.svc_left.specs.Opening.{beginning};
@@ -15,7 +15,6 @@ use crate::maker::{Maker, PartFault, PartResources, Reaper};
 use crate::pair::Pair;
 use crate::part::Part;
 use crate::running::{Running, end};
-use crate::runtime::Runtime;
 use crate::service::{Beginning, Task};
 use crate::shared::Activity;
 use scan_table::{DirRow, PartId, Role, ScanTable, find_row};
@@ -23,7 +22,7 @@ use std::alloc::Global;
 use std::io;
 use std::sync::Arc;
 use std::thread::Builder;
-use svc_house::Notifier;
+use svc_house::{Notifier, Runtime};
 use svc_station::parked::Parked;
 use tai_status::{Cause, Label};
 
@@ -213,7 +212,7 @@ impl<M: Maker + Drop, R: Runtime> PartFactory<M, R> {
 
     /// Forgets a slot, and lets the threads of its pair end.
     pub(crate) fn forget(&mut self, slot: u64)
-        ensures calls { ExtendedWhileKept (M.calls self.old.maker) (M.calls self.new.maker) (ForgotSlot slot ∷ []) }
+        ensures calls { MadeWhileKept M.calls (ForgotSlot slot) self.old.maker self.new.maker }
         ensures pairs { self.new.pairs.items ≡ pairs_without slot self.old.pairs.items }
     {
         self.pairs.retain(|pair| pair.slot != slot);
@@ -249,8 +248,7 @@ impl<M: Maker + Drop, R: Runtime> PartFactory<M, R> {
 
     // Hands a trace of a part, with this count of events, to the maker. Returns whether it is kept.
     fn hand_trace(&mut self, part: &mut Part<R>, count: u64, text: &[u8]) -> bool
-        ensures handed { ExtendedWhileKept (M.calls self.old.maker) (M.calls self.new.maker)
-            (KeptTrace part.old.id text.now result ∷ []) }
+        ensures handed { MadeWhileKept M.calls (KeptTrace part.old.id text.now result) self.old.maker self.new.maker }
         ensures noted { MatchBool result (part.new ≡ record part.old { kept = Some count }) (part.new ≡ part.old) }
     {
         let kept = self.maker.keep_trace(part.id(), text);

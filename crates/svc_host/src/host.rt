@@ -19,7 +19,6 @@ use crate::parts::{
     any_owes, forget_losses, losses, owing_ids, post_to, running, running_ids, service_runs,
     sight_at, status_of, stays,
 };
-use crate::runtime::Runtime;
 use crate::shared::Activity;
 use scan_table::{DirRow, PartId, Role, ScanFault, ScanOut, ScanTable};
 use std::alloc::{AllocError, Global};
@@ -27,7 +26,7 @@ use std::marker::Model;
 use std::mem;
 use std::sync::{Arc, Wait};
 use std::time::Duration;
-use svc_house::{ControlSender, MailInbox, Notifier};
+use svc_house::{ControlSender, MailInbox, Notifier, Runtime};
 use tai_status::{Label, Name, View};
 use thiserror::Error;
 

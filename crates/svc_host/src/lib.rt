@@ -24,7 +24,6 @@ mod part_thread;
 mod parts;
 mod rest;
 mod running;
-mod runtime;
 mod service;
 mod shared;
 
@@ -32,4 +31,4 @@ pub use host::{Host, HostOut, PostFault, Unmade};
 pub use kill::{never_without_seconds, once_for_each_asking};
 pub use maker::{Maker, Outlets, PartFault, PartResources, Reaper};
 pub use part::Loss;
-pub use runtime::Runtime;
+pub use svc_house::Runtime;

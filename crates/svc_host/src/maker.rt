@@ -45,18 +45,17 @@ pub trait Outlets<O: Outlet + Drop> {
     ghost use Rattle.std.specs.Prelude.{◌≡◌, [], IfSome};
 
     /// Returns the input of the logger's newest life, into which nothing was put. Returns it once a life, and None
-    /// otherwise. If there is no input yet, the pair's notifier is notified once there is.
+    /// otherwise. If there is none yet, it is asked again when more output comes, and after each write that fails.
     fn next(&mut self) -> Option<O>
         ensures fresh { IfSome result (λ outlet. IfSome (O.bytes outlet) (λ bytes. bytes ≡ [])) };
 }
 
 /// Makes the resources of each part. `pair` is called for a slot that is a pair before its parts are made. Contracts
-/// see the calls and their results, in order (`calls`), while they are recorded. Recording may stop, for example out of
-/// memory, and then does not resume.
+/// see its calls (`MadeWhileKept`).
 pub trait Maker {
-    ghost use Rattle.std.specs.Prelude.{◌≡◌, Option, None, List, [], ◌∷◌, IfOk};
+    ghost use Rattle.std.specs.Prelude.{◌≡◌, Option, None, List, [], IfOk};
     ghost use Rattle.std.specs.Result.{result_err};
-    ghost use Rattle.svc_house.specs.Calls.{ExtendedWhileKept};
+    ghost use Rattle.svc_house.specs.Calls.{MadeWhileKept};
     ghost use Rattle.svc_host.specs.Answers.{answered};
     ghost use Rattle.svc_left.specs.Opening.{BeginsAlive};
     ghost use Rattle.svc_host.specs.Resources.{begins_as};
@@ -87,51 +86,43 @@ pub trait Maker {
         sender: ControlSender,
         notifier: Arc<Notifier, Global>,
     ) -> Result<PartResources<Self::World, Self::Gate, Self::Reaper>, PartFault>
-        ensures calls { ExtendedWhileKept (calls self.old) (calls self.new)
-            (MadePart id name.now (begins_as result) ∷ []) }
+        ensures calls { MadeWhileKept calls (MadePart id name.now (begins_as result)) self.old self.new }
         ensures alive { IfOk result (λ resources. BeginsAlive resources.opening) }
         ensures fresh { IfOk result (λ resources. answered (Self.World.calls resources.world) ≡ []) };
 
     /// Makes the output of the service of a pair with this name, which continues from life to life, and the outlets for
-    /// it. A fault says why they can't be made. It may be called again for a slot, if no thread could be made. What
-    /// carries the output waits for `notifier`.
-    fn pair(
-        &mut self,
-        name: &str,
-        slot: u64,
-        notifier: Arc<Notifier, Global>,
-    ) -> Result<(Self::Output, Self::Outlets), PartFault>
-        ensures calls { ExtendedWhileKept (calls self.old) (calls self.new)
-            (MadePair slot name.now (result_err result) ∷ []) };
+    /// it. A fault says why they can't be made. It may be called again for a slot, if no thread could be made.
+    fn pair(&mut self, name: &str, slot: u64) -> Result<(Self::Output, Self::Outlets), PartFault>
+        ensures calls { MadeWhileKept calls (MadePair slot name.now (result_err result)) self.old self.new };
 
     /// Keeps the trace of a part, and returns whether it could.
     fn keep_trace(&mut self, id: PartId, text: &[u8]) -> bool
-        ensures calls { ExtendedWhileKept (calls self.old) (calls self.new) (KeptTrace id text.now result ∷ []) };
+        ensures calls { MadeWhileKept calls (KeptTrace id text.now result) self.old self.new };
 
     /// Called when a part has ended, or could not be started after it was made: nothing may come to it from outside any
     /// more.
     fn ended(&mut self, id: PartId)
-        ensures calls { ExtendedWhileKept (calls self.old) (calls self.new) (EndedPart id ∷ []) };
+        ensures calls { MadeWhileKept calls (EndedPart id) self.old self.new };
 
     /// Called when a slot is dropped: the output of its pair, if it is a pair, must end.
     fn forget(&mut self, slot: u64)
-        ensures calls { ExtendedWhileKept (calls self.old) (calls self.new) (ForgotSlot slot ∷ []) };
+        ensures calls { MadeWhileKept calls (ForgotSlot slot) self.old self.new };
 
     /// Lets all outputs of pairs be asked to end from now on (`end_output`).
     fn watch_outputs(&mut self)
-        ensures calls { ExtendedWhileKept (calls self.old) (calls self.new) (WatchedOutputs ∷ []) };
+        ensures calls { MadeWhileKept calls WatchedOutputs self.old self.new };
 
     /// Asks the output of a slot's pair to end: at once, or when there is nothing to read for now.
     fn end_output(&mut self, slot: u64, at_once: bool)
-        ensures calls { ExtendedWhileKept (calls self.old) (calls self.new) (EndedOutput slot at_once ∷ []) };
+        ensures calls { MadeWhileKept calls (EndedOutput slot at_once) self.old self.new };
 
     /// Returns whether the logger of a slot's pair has nothing to read for now.
     fn is_read(&mut self, slot: u64) -> bool
-        ensures calls { ExtendedWhileKept (calls self.old) (calls self.new) (AskedIsRead slot result ∷ []) };
+        ensures calls { MadeWhileKept calls (AskedIsRead slot result) self.old self.new };
 
     /// Returns how many bytes of the output of a slot's pair were read and don't reach its logger, after that output
     /// has ended. These are the bytes that were not put into its input. If there is no logger, the bytes in its input
     /// count too.
     fn lost(&mut self, slot: u64, has_logger: bool) -> u64
-        ensures calls { ExtendedWhileKept (calls self.old) (calls self.new) (CountedLost slot has_logger result ∷ []) };
+        ensures calls { MadeWhileKept calls (CountedLost slot has_logger result) self.old self.new };
 }

@@ -1,9 +1,9 @@
 //! The two threads that carry a pair's output to its logger. One reads the output. At the first bytes it starts the
 //! other one, which puts the output into the logger. Until then there is no box, and no block.
-ghost use Rattle.std.specs.Prelude.{◌≡◌, ◌<◌, [], true, false, IfSome, IfErr, IfOk, None, ◌∷◌, OnOk};
+ghost use Rattle.std.specs.Prelude.{◌≡◌, ◌<◌, [], true, false, IfSome, IfErr, IfOk, None, OnOk};
 ghost use mathlib.Core.List.{IsPrefix};
 ghost use Rattle.tai_status.specs.Counted.{IsRead};
-ghost use Rattle.svc_house.specs.Calls.{ExtendedWhileKept};
+ghost use Rattle.svc_house.specs.Calls.{MadeWhileKept};
 ghost use Rattle.svc_host.specs.Calls.{AsksPair, MadePair};
 ghost use Rattle.svc_mail.specs.Ends.{IsSameReceiver, IsSameSender, home, posted, receiver_home, taken_by};
 ghost use Rattle.svc_relay.specs.Whole.{bytes_put};
@@ -345,14 +345,13 @@ impl Pair {
     ) -> Result<Pair, PartFault>
         requires { 0 < capacity }
         ensures slot { IfOk result (λ pair. pair.slot ≡ slot) }
-        ensures asked { OnOk result (ExtendedWhileKept (M.calls maker.old) (M.calls maker.new)
-            (MadePair slot name.now None ∷ [])) }
+        ensures asked { OnOk result (MadeWhileKept M.calls (MadePair slot name.now None) maker.old maker.new) }
         ensures failed { IfErr result (λ fault. AsksPair slot name.now fault (M.calls maker.old) (M.calls maker.new)) }
     {
         let Ok(shared) = Arc::new(alloc, PairShared::new(alloc)?) else {
             return Err(PartFault::Refused(Cause::NoMemory));
         };
-        let (output, outlets) = maker.pair(name, slot, Arc::try_clone(&shared.filled)?)?;
+        let (output, outlets) = maker.pair(name, slot)?;
         let taking = Taking {
             alloc,
             output: GrowingReader::new(alloc, output)?,

@@ -6,14 +6,13 @@ use crate::ending::{EndStep, ProcessSight, end_step, is_log, sight_of};
 use crate::growth::Growth;
 use crate::part_thread::PartThread;
 use crate::running::Running;
-use crate::runtime::Runtime;
 use scan_table::PartId;
 use std::alloc::Global;
 use std::marker::Model;
 use std::sync::Wait;
 use std::thread::Threads;
 use sup_core::Machine;
-use svc_house::ControlSender;
+use svc_house::{ControlSender, Runtime};
 use svc_left::Opening;
 use svc_mail::letter::Full;
 

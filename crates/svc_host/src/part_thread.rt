@@ -12,7 +12,6 @@ ghost use Rattle.tai_status.specs.declared.phase.Phase.{Phase};
 
 use crate::growth::{Growth, text_of};
 use crate::running::Running;
-use crate::runtime::Runtime;
 use core::mem::replace_with;
 use std::alloc::{AllocError, Global};
 use std::snapshot::Snapshot;
@@ -20,7 +19,7 @@ use std::sync::Wait;
 use std::thread::Threads;
 use sup_core::Machine;
 use sup_trace::TraceText;
-use svc_house::last_reading;
+use svc_house::{Runtime, last_reading};
 use svc_mail::receiver::Receiver;
 use svc_station::audit::last_machine;
 use svc_station::reader::Reader;

@@ -12,10 +12,10 @@ ghost use Rattle.svc_host.specs.Ending.{IsSight};
 use crate::ending::ProcessSight;
 use crate::host::PostFault;
 use crate::part::{Loss, Part};
-use crate::runtime::Runtime;
 use scan_table::{PartId, Role};
 use std::alloc::{AllocError, Global};
 use sup_core::Machine;
+use svc_house::Runtime;
 use tai_status::View;
 
 /// Returns whether it is this part.

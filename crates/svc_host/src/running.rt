@@ -6,14 +6,13 @@ ghost use mathlib.Core.List.{IsPrefix};
 ghost use Rattle.svc_station.specs.Ends.{AreNewReaders, IsNewReader, known_to, number_of, reader_station, station};
 
 use crate::part_thread::Last;
-use crate::runtime::Runtime;
 use crate::service::{Served, ServesToItsEnd, Task, serve_or_stay_out};
 use crate::shared::PartShared;
 use std::alloc::Global;
 use std::marker::Model;
 use std::sync::{Arc, Wait};
 use std::thread::{Builder, PromisedHandle, Threads};
-use svc_house::{Gate, World};
+use svc_house::{Gate, Runtime, World};
 use svc_station::parked::Parked;
 use svc_station::reader::Reader;
 use svc_station::writer::Writer;

@@ -14,7 +14,7 @@ use Rattle.svc_house.specs.declared.turned.HouseFault.{HouseFault}
 use Rattle.svc_house.specs.Calls.{ExtendedWhileKept, requested, IsLastReading}
 use Rattle.svc_house.specs.Pending.{events_in, rest_of}
 use Rattle.svc_house.specs.Standing.{Standing, past_of}
-use Rattle.svc_house.specs.Turn.{phase_in, polls_of, IsAbout, IsIdle, IsRefused, IsSameHouse, IsTurn, Listens}
+use Rattle.svc_house.specs.Turn.{phase_in, polls_of, IsAbout, IsRefused, IsSameHouse, IsTurn, Listens}
 use Rattle.svc_house.specs.Turn.{PassesGate}
 use Rattle.svc_house.specs.Turn.{Takes}
 use Rattle.svc_house.proofs.Extended.{extended-append}

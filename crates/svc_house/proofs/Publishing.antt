@@ -1,6 +1,6 @@
 -- How publishing an event changes the facts of a house.
 use Rattle.std.proofs.Common.{◌≡◌, ℕ, List, [], ◌∷◌, ◌++◌, Option, Some, None, IfSome, sym, ap, ◌∙◌, subst}
-use Rattle.std.proofs.Common.{append_assoc, arith}
+use Rattle.std.proofs.Common.{Bool, true, false, if◌then◌else◌, refl, append_assoc, arith}
 use Rattle.std.proofs.lemmas.List.{append-nil}
 use Rattle.sup_core.specs.declared.asks.Ask.{Ask}
 use Rattle.sup_core.specs.declared.event.Event.{Event}
@@ -9,6 +9,8 @@ use Rattle.sup_core.specs.State.{State}
 use Rattle.sup_core.specs.History.{History, Opened}
 use Rattle.sup_core.specs.Runs.{AreTaken, followed_by}
 use Rattle.sup_core.proofs.Laws.{followed_by-append}
+use Rattle.sup_core.specs.declared.asks.Reply.TheVariants.{Held, Took}
+use Rattle.sup_core.specs.Rules.{asks_of, reply_to, takes}
 use Rattle.svc_house.specs.declared.call.Call.{Call}
 use Rattle.svc_house.specs.declared.pending.Pending.{Pending}
 use Rattle.svc_house.specs.declared.pending.Pending.TheVariants.{Empty, One, ByteThenDeath}
@@ -16,6 +18,30 @@ use Rattle.svc_house.specs.Calls.{ExtendedWhileKept, requested, answers_in, outc
 use Rattle.svc_house.specs.Pending.{events_in, rest_of}
 use Rattle.svc_house.specs.Standing.{HoldsLastReading}
 use Rattle.svc_house.proofs.Lists.{answers-extended, answers_in-requested, readings_in-append, readings_in-requested}
+
+-- An event was taken if its asks are the reply, and these are what the table asks.
+pub took-taken : (past : History) (event : Event) (asks : List Ask) → Took asks ≡ reply_to past event
+    → takes past event ≡ true
+took-taken past event asks = by (takes past event)
+  where
+    by : (b : Bool) → Took asks ≡ (if b then Took (asks_of past event) else Held) → b ≡ true
+    by true says = refl
+    by false says = absurd cc
+
+pub took-asks : (past : History) (event : Event) (asks : List Ask) → Took asks ≡ reply_to past event
+    → asks ≡ asks_of past event
+took-asks past event asks = by (takes past event)
+  where
+    by : (b : Bool) → Took asks ≡ (if b then Took (asks_of past event) else Held) → asks ≡ asks_of past event
+    by true says = cc
+    by false says = absurd cc
+
+-- What the world was asked after the event.
+pub asked-as : (past : History) (event : Event) (asks made : List Ask) (old new : Option (List Call)) → made ≡ asks
+    → Took asks ≡ reply_to past event → ExtendedWhileKept old new (requested made)
+    → ExtendedWhileKept old new (requested (asks_of past event))
+asked-as past event asks made old new same says =
+    subst (λ l. ExtendedWhileKept old new (requested l)) (same ∙ took-asks past event asks says)
 
 -- What was published, followed by what is pending, stays the same.
 pub found-same : (events : List Event) (event : Event) (pending : Pending)

@@ -21,6 +21,11 @@ ExtendedWhileKept old None more = ⊤
 ExtendedWhileKept None (Some new) more = ⊥
 ExtendedWhileKept (Some old) (Some new) more = new ≡ old ++ more
 
+-- What a trait has such a list for: `calls` is what it was called for, with the results, in order. From the old to the
+-- new state this call was made, and no other.
+abbrev pub MadeWhileKept : {S A : Type 0} → (calls : S → Option (List A)) → (call : A) → (old new : S) → Type 0
+MadeWhileKept calls call old new = ExtendedWhileKept (calls old) (calls new) (call ∷ [])
+
 -- A count that is kept rose by one. It stays kept.
 abbrev pub CountsOne : Option ℕ → Option ℕ → Type 0
 CountsOne None new = ⊤
@@ -55,14 +60,14 @@ event_of (start.Started pid label) = Started pid label
 event_of (start.Failed label) = StartFailed label
 
 -- the call that polled for the result of a start
-abbrev pub start_poll : Option StartAnswer → List Call
-start_poll None = NoStart ∷ []
-start_poll (Some answer) = Answered (event_of answer) ∷ []
+abbrev pub start_poll : Option StartAnswer → Call
+start_poll None = NoStart
+start_poll (Some answer) = Answered (event_of answer)
 
 -- the call that polled for a death
-abbrev pub death_poll : Option Tai64n → List Call
-death_poll None = NoDeath ∷ []
-death_poll (Some label) = Answered (Death label) ∷ []
+abbrev pub death_poll : Option Tai64n → Call
+death_poll None = NoDeath
+death_poll (Some label) = Answered (Death label)
 
 -- the calls that make these asks
 abbrev pub requested : List Ask → List Call

@@ -1,8 +1,9 @@
--- What an inbox over a mailbox gives, and the sender that posts a control byte.
+-- What an inbox over a mailbox gives, the sender that posts control bytes, and what it posted.
 use Rattle.std.specs.Prelude.{ℕ, List, map}
 use Rattle.svc_mail.specs.declared.letter.Letter.{Letter}
 use Rattle.svc_mail.specs.declared.receiver.Receiver.{Receiver}
 use Rattle.svc_mail.specs.declared.sender.Sender.{Sender}
+use Rattle.svc_mail.specs.Ends.{posted}
 use Rattle.svc_house.specs.declared.control_sender.ControlSender.{ControlSender}
 use Rattle.svc_house.specs.declared.mail_inbox.MailInbox.{MailInbox}
 
@@ -17,3 +18,7 @@ receiver_in inbox = inbox.receiver
 -- the sender that posts
 abbrev pub sender_in : {A : Type 0} → ControlSender A → Sender ℕ A
 sender_in control_sender = control_sender.sender
+
+-- the control bytes that were posted, in order
+abbrev pub posted_by : {A : Type 0} → ControlSender A → List ℕ
+posted_by control_sender = posted (sender_in control_sender)

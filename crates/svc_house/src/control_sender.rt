@@ -1,7 +1,7 @@
 //! How a control byte from another thread reaches a service.
 ghost use Rattle.std.specs.Prelude.{◌≡◌, ◌++◌, ◌∷◌, [], IfErr, OnErr, OnOk};
-ghost use Rattle.svc_mail.specs.Ends.{IsSameSender, JoinsHistory, WasFull, heard_by, posted, seen_by};
-ghost use Rattle.svc_house.specs.Mail.{sender_in};
+ghost use Rattle.svc_mail.specs.Ends.{IsSameSender, JoinsHistory, WasFull, heard_by, seen_by};
+ghost use Rattle.svc_house.specs.Mail.{posted_by, sender_in};
 
 use crate::news::News;
 use crate::notifier::Notifier;
@@ -28,9 +28,9 @@ impl<A: Allocator + Clone> ControlSender<A> {
     /// Posts a control byte, once, and then notifies. `Full` gives the byte back, and nothing was posted.
     pub fn post<R: Wait>(&mut self, rt: &R, byte: u8) -> Result<(), Full<u8>>
         ensures same { IsSameSender (sender_in self.old) (sender_in self.new) }
-        ensures posted { OnOk result (posted (sender_in self.new) ≡ posted (sender_in self.old) ++ byte ∷ []) }
+        ensures posted { OnOk result (posted_by self.new ≡ posted_by self.old ++ byte ∷ []) }
         ensures history { OnOk result (JoinsHistory (sender_in self.old) byte (sender_in self.new)) }
-        ensures unposted { OnErr result (posted (sender_in self.new) ≡ posted (sender_in self.old)) }
+        ensures unposted { OnErr result (posted_by self.new ≡ posted_by self.old) }
         ensures unseen { OnErr result (seen_by (sender_in self.new) ≡ seen_by (sender_in self.old)) }
         ensures unheard { heard_by (sender_in self.new) ≡ heard_by (sender_in self.old) }
         ensures full { IfErr result (λ full. (full.0 ≡ byte) × WasFull (sender_in self.old)) }

@@ -1,9 +1,4 @@
 //! The loop of one service.
-ghost use Rattle.std.specs.Prelude.{◌≡◌, ◌++◌, ◌∷◌, [], true, OnErr, OnOk};
-ghost use Rattle.sup_core.specs.Rules.{IsEvent, takes, asks_of};
-ghost use Rattle.svc_station.specs.Ends.{history_of, published, station};
-ghost use Rattle.svc_house.specs.Calls.{ExtendedWhileKept, requested};
-
 use crate::find::find;
 use crate::gate::Gate;
 use crate::inbox::Inbox;
@@ -11,7 +6,6 @@ use crate::pending::Pending;
 use crate::request::request;
 use crate::turned::{HouseFault, Turned};
 use crate::world::World;
-use std::alloc::AllocError;
 use std::marker::Model;
 use std::sync::Wait;
 use std::time::Duration;
@@ -41,40 +35,14 @@ impl<W: World, I: Inbox, G: Gate + Drop> Model for House<W, I, G> {
         h.inbox (I.source h.inbox) (I.given h.inbox) (I.nones h.inbox) (G.passes h.gate)) };
 }
 
-/// Publishes an event that is taken, and then asks the world for what the event asks for.
-fn publish_and_request<W: World, R: Wait>(
-    rt: &R,
-    event: Event,
-    world: &mut W,
-    writer: &mut Writer,
-) -> Result<(), AllocError>
-    requires event { IsEvent event }
-    requires taken { takes (history_of writer.old) event ≡ true }
-    ensures same { station writer.new ≡ station writer.old }
-    ensures published { OnOk result (published writer.new ≡ published writer.old ++ event ∷ []) }
-    ensures unpublished { OnErr result (published writer.new ≡ published writer.old) }
-    ensures requested { OnOk result
-        (ExtendedWhileKept (W.calls world.old) (W.calls world.new)
-        (requested (asks_of (history_of writer.old) event))) }
-    ensures unrequested { OnErr result (W.calls world.new ≡ W.calls world.old) }
-    ensures mends { W.mends world.new ≡ W.mends world.old }
-{
-    match writer.publish(rt, event)? {
-        Reply::Held => unreachable!(),
-        Reply::Took(asks) => {
-            request(world, asks.as_slice());
-            Ok(())
-        }
-    }
-}
-
 impl<W: World, I: Inbox, G: Gate + Drop> House<W, I, G> {
     ghost use Rattle.std.specs.Prelude.{◌≡◌, ◌≢◌, ◌↔◌, ◌++◌, ◌∷◌, [], false, Ok, Some, None, All};
     ghost use Rattle.std.specs.Prelude.{IfOk, OnOk, OnErr, IfSome, MatchOption};
     ghost use Rattle.tai_status.specs.declared.phase.Phase.{Phase};
     ghost use Rattle.sup_core.specs.State.{is_gone};
+    ghost use Rattle.sup_core.specs.Rules.{asks_of};
     ghost use Rattle.svc_station.specs.Ends.{history_of, published, station, opening_of};
-    ghost use Rattle.svc_house.specs.Calls.{answers_in, CountsOne, IsAsk, IsLastReading};
+    ghost use Rattle.svc_house.specs.Calls.{answers_in, CountsOne, ExtendedWhileKept, IsAsk, IsLastReading, requested};
     ghost use Rattle.svc_house.specs.Pending.{IsNext, rest_of};
     ghost use Rattle.svc_house.specs.Standing.{Standing, IsHouse, past_of, state_in};
     ghost use Rattle.svc_house.specs.Turn.{IsSameHouse, IsTurn, IsIdle, IsRefused, Listens, PassesGate, phase_in};
@@ -207,11 +175,13 @@ impl<W: World, I: Inbox, G: Gate + Drop> House<W, I, G> {
         ensures refused { OnErr result (self.new ≡ self.old) }
     {
         let taken = event;
-        match publish_and_request(rt, event, &mut self.world, &mut self.writer) {
-            Ok(()) => {
+        match self.writer.publish(rt, event) {
+            Ok(Reply::Took(asks)) => {
+                request(&mut self.world, asks.as_slice());
                 self.pending = self.pending.rest();
                 Ok(Turned::Took(taken))
             }
+            Ok(Reply::Held) => unreachable!(),
             Err(_refused) => Err(HouseFault::OutOfMemory),
         }
     }

@@ -1,14 +1,14 @@
 //! How asks reach the world.
-ghost use Rattle.std.specs.Prelude.{◌≡◌, [], ◌∷◌, All};
+ghost use Rattle.std.specs.Prelude.{◌≡◌, All};
 ghost use Rattle.svc_house.specs.declared.call.Call.{Call};
-ghost use Rattle.svc_house.specs.Calls.{ExtendedWhileKept, IsAsk, requested};
+ghost use Rattle.svc_house.specs.Calls.{ExtendedWhileKept, IsAsk, MadeWhileKept, requested};
 
 use crate::world::World;
 use sup_core::Ask;
 
 fn request_one<W: World>(world: &mut W, ask: &Ask)
     requires { IsAsk ask.now }
-    ensures calls { ExtendedWhileKept (W.calls world.old) (W.calls world.new) (Call.Requested ask.now ∷ []) }
+    ensures calls { MadeWhileKept W.calls (Call.Requested ask.now) world.old world.new }
     ensures mends { W.mends world.new ≡ W.mends world.old }
 {
     match ask {

@@ -6,14 +6,14 @@ use std::time::Duration;
 use sup_core::Sig;
 use tai_status::Label;
 
-/// What a service's loop asks and polls. Contracts see the calls with their results, in order (`calls`), and how often
-/// the world was asked to mend (`mends`), if the world keeps them. A world that has no memory for more calls no longer
-/// keeps them. A record that can't be written is owed: the service continues, and each turn asks the world to mend.
+/// What a service's loop asks and polls. Contracts see its calls (`MadeWhileKept`), and how often the world was asked
+/// to mend (`mends`), if the world counts that. A record that can't be written is owed: the service continues, and each
+/// turn asks the world to mend.
 pub trait World {
-    ghost use Rattle.std.specs.Prelude.{◌≡◌, ◌<◌, ℕ, Option, None, List, [], ◌∷◌, IfSome};
+    ghost use Rattle.std.specs.Prelude.{◌≡◌, ◌<◌, ℕ, Option, None, List, IfSome};
     ghost use Rattle.sup_core.specs.declared.asks.Ask.{Ask};
     ghost use Rattle.svc_house.specs.declared.call.Call.{Call};
-    ghost use Rattle.svc_house.specs.Calls.{CountsOne, ExtendedWhileKept, IsAnswer, start_poll, death_poll};
+    ghost use Rattle.svc_house.specs.Calls.{CountsOne, IsAnswer, MadeWhileKept, death_poll, start_poll};
 
     ghost calls: { Self → Option (List Call) } = { λ _. None };
 
@@ -22,35 +22,33 @@ pub trait World {
     /// Sends a signal to the process with this number, which is at least 1.
     fn signal(&mut self, sig: Sig, pid: u32)
         requires { 0 < pid }
-        ensures calls { ExtendedWhileKept (calls self.old) (calls self.new)
-            (Call.Requested (Ask.Signal sig pid) ∷ []) }
+        ensures calls { MadeWhileKept calls (Call.Requested (Ask.Signal sig pid)) self.old self.new }
         ensures mends { mends self.new ≡ mends self.old };
 
     /// Starts the service. `poll_start` returns the result.
     fn start(&mut self)
-        ensures calls { ExtendedWhileKept (calls self.old) (calls self.new) (Call.Requested Ask.Start ∷ []) }
+        ensures calls { MadeWhileKept calls (Call.Requested Ask.Start) self.old self.new }
         ensures mends { mends self.new ≡ mends self.old };
 
     /// Writes the status record.
     fn write(&mut self, bytes: &[u8; 20])
-        ensures calls { ExtendedWhileKept (calls self.old) (calls self.new)
-            (Call.Requested (Ask.Write bytes.now) ∷ []) }
+        ensures calls { MadeWhileKept calls (Call.Requested (Ask.Write bytes.now)) self.old self.new }
         ensures mends { mends self.new ≡ mends self.old };
 
     /// Returns the result of the start that was asked for, after it ended.
     fn poll_start(&mut self) -> Option<StartAnswer>
-        ensures calls { ExtendedWhileKept (calls self.old) (calls self.new) (start_poll result) }
+        ensures calls { MadeWhileKept calls (start_poll result) self.old self.new }
         ensures process { IfSome result IsAnswer }
         ensures mends { mends self.new ≡ mends self.old };
 
     /// Returns when the process died, after it died.
     fn poll_death(&mut self) -> Option<Label>
-        ensures calls { ExtendedWhileKept (calls self.old) (calls self.new) (death_poll result) }
+        ensures calls { MadeWhileKept calls (death_poll result) self.old self.new }
         ensures mends { mends self.new ≡ mends self.old };
 
     /// Reads the clock.
     fn clock(&mut self) -> Label
-        ensures calls { ExtendedWhileKept (calls self.old) (calls self.new) (Call.Read result ∷ []) }
+        ensures calls { MadeWhileKept calls (Call.Read result) self.old self.new }
         ensures mends { mends self.new ≡ mends self.old };
 
     /// Tries again to write what could not be written.

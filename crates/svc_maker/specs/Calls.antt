@@ -1,5 +1,5 @@
 -- What was asked of the system for the parts of services, and the results.
-use Rattle.std.specs.Prelude.{ℕ, Bool, List, [], ◌∷◌, Option, Result}
+use Rattle.std.specs.Prelude.{ℕ, Bool, List, Option, Result}
 use Rattle.std.specs.Borrow.{Bor}
 use Rattle.std.specs.Option.{option_copied, option_map}
 use Rattle.std.specs.Result.{result_err}
@@ -7,7 +7,6 @@ use Rattle.std.specs.declared.io.PipeReader.{PipeReader}
 use Rattle.std.specs.declared.fs.File.{File}
 use Rattle.tai_status.specs.declared.cause.Cause.{Cause}
 use Rattle.scan_table.specs.Slots.{Row}
-use Rattle.svc_house.specs.Calls.{ExtendedWhileKept}
 use Rattle.svc_world.specs.declared.output.OutputEnds.{OutputEnds}
 use Rattle.svc_world.specs.declared.flow.Flow.{Flow}
 use Rattle.svc_world.specs.declared.flow.LoggerInput.{LoggerInput}
@@ -56,12 +55,11 @@ pub data Call : Type 0 where
   CountedBetween : (flow : Flow) → (bytes : ℕ) → Call
   Drained : (input : PipeReader) → (bytes : ℕ) → Call
 
--- A world was to be made, with copies of these ends of pipes. That is one more call, while calls are recorded.
-abbrev pub MakesWorld : {A : Type 0} → (old new : Option (List Call)) (path name : List ℕ) (left : Left)
-    (input : Option (Bor PipeReader)) (output : Option (Bor File)) (made : Result A Cause) → Type 0
-MakesWorld old new path name left input output made =
-    ExtendedWhileKept old new
-    (MadeWorld path name left (option_copied input) (option_copied output) (result_err made) ∷ [])
+-- the call for a world, with copies of these ends of pipes
+abbrev pub world_call : {A : Type 0} → (path name : List ℕ) (left : Left) (input : Option (Bor PipeReader))
+    (output : Option (Bor File)) (made : Result A Cause) → Call
+world_call path name left input output made =
+    MadeWorld path name left (option_copied input) (option_copied output) (result_err made)
 
 -- why a part was not admitted, if it was not
 abbrev pub why_refused : {A : Type 0} → Result A NotAdmitted → Option Cause

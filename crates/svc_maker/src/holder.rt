@@ -17,42 +17,36 @@ pub enum OwnFault {
 
 /// A maker of parts over the folders in a folder, each with its lock. Contracts see its calls among those of a maker.
 pub trait FolderHolder: Maker {
-    ghost use Rattle.std.specs.Prelude.{[], ◌∷◌, string_bytes};
+    ghost use Rattle.std.specs.Prelude.{string_bytes};
     ghost use Rattle.std.specs.Result.{is_ok};
-    ghost use Rattle.svc_house.specs.Calls.{ExtendedWhileKept};
+    ghost use Rattle.svc_house.specs.Calls.{MadeWhileKept};
     ghost use Rattle.svc_host.specs.Calls.{AdmittedAll, Allowed, AskedRefusals, AskedWaits, LeftOwn, Prepared};
     ghost use Rattle.svc_host.specs.Calls.{ServedOwn, SetFolder};
 
     /// Looks for the folders of services in this folder from now on. Out of memory, it looks for them in the folder
     /// before.
     fn set_folder(&mut self, folder: &str) -> Result<(), AllocError>
-        ensures calls { ExtendedWhileKept (Self.calls self.old) (Self.calls self.new)
-            (SetFolder folder.now (is_ok result) ∷ []) };
+        ensures calls { MadeWhileKept Self.calls (SetFolder folder.now (is_ok result)) self.old self.new };
 
     /// Sets the number of descriptors that this process may have from now on.
     fn set_allowed(&mut self, descriptors: u64)
-        ensures calls { ExtendedWhileKept (Self.calls self.old) (Self.calls self.new)
-            (Allowed descriptors ∷ []) };
+        ensures calls { MadeWhileKept Self.calls (Allowed descriptors) self.old self.new };
 
     /// Makes, all at once, what the outputs of the services in these rows lack, as far as it can.
     fn prepare(&mut self, rows: &[DirRow])
-        ensures calls { ExtendedWhileKept (Self.calls self.old) (Self.calls self.new)
-            (Prepared rows.now ∷ []) };
+        ensures calls { MadeWhileKept Self.calls (Prepared rows.now) self.old self.new };
 
     /// Admits the waiting parts to the door, as far as it can: from then on they get control bytes.
     fn admit_all(&mut self)
-        ensures calls { ExtendedWhileKept (Self.calls self.old) (Self.calls self.new)
-            (AdmittedAll ∷ []) };
+        ensures calls { MadeWhileKept Self.calls AdmittedAll self.old self.new };
 
     /// Returns whether a part waits to be admitted.
     fn any_waits(&mut self) -> bool
-        ensures calls { ExtendedWhileKept (Self.calls self.old) (Self.calls self.new)
-            (AskedWaits result ∷ []) };
+        ensures calls { MadeWhileKept Self.calls (AskedWaits result) self.old self.new };
 
     /// Returns the parts that could not be admitted, and why: as many as there is memory for.
     fn refusals(&mut self) -> Vec<Unmade>
-        ensures calls { ExtendedWhileKept (Self.calls self.old) (Self.calls self.new)
-            (AskedRefusals ∷ []) };
+        ensures calls { MadeWhileKept Self.calls AskedRefusals self.old self.new };
 
     /// Serves svscan itself in the folder at a path, with this status record. Its control bytes come through `sender`.
     /// A fault says why it is not served.
@@ -62,11 +56,9 @@ pub trait FolderHolder: Maker {
         bytes: &[u8; 20],
         sender: ControlSender,
     ) -> Result<(), OwnFault>
-        ensures calls { ExtendedWhileKept (Self.calls self.old) (Self.calls self.new)
-            (ServedOwn (string_bytes path) (is_ok result) ∷ []) };
+        ensures calls { MadeWhileKept Self.calls (ServedOwn (string_bytes path) (is_ok result)) self.old self.new };
 
     /// Stops serving svscan itself, and writes this status record for it.
     fn leave_own(&mut self, bytes: &[u8; 20])
-        ensures calls { ExtendedWhileKept (Self.calls self.old) (Self.calls self.new)
-            (LeftOwn ∷ []) };
+        ensures calls { MadeWhileKept Self.calls LeftOwn self.old self.new };
 }

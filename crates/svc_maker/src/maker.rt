@@ -174,12 +174,7 @@ where
 
     /// Makes the output of a pair's service and the pipe of its logger. Once both are made, earlier ones of the slot
     /// are dropped.
-    fn pair(
-        &mut self,
-        name: &str,
-        slot: u64,
-        _notifier: Arc<Notifier, Global>,
-    ) -> Result<(ServiceOutput, PairOutlets), PartFault>
+    fn pair(&mut self, name: &str, slot: u64) -> Result<(ServiceOutput, PairOutlets), PartFault>
         ensures { MakesPair name.now slot result self.old self.new }
     {
         if self.pipes.reserve(1).is_err() {

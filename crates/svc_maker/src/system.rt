@@ -55,7 +55,7 @@ where
     alloc: Global,
     clock: SystemClock<R>,
     shared: Arc<Surroundings<R>, Global>,
-    door: Door<ControlSender>,
+    door: Door,
     // The time until which locks are tried in this round.
     patience: Patience,
     // The number of descriptors that this process may have, and how many parts were opened in this round. These parts
@@ -77,7 +77,7 @@ where
         runtime: R,
         files: HostRuntime,
         alloc: Global,
-        door: Door<ControlSender>,
+        door: Door,
         adoptions: AdoptionWatch,
     ) -> io::Result<SystemParts<R>> {
         let (watch, unwatched) = io::pipe(&runtime)?;
@@ -305,7 +305,7 @@ where
         match self.door.admit(&self.runtime, number, sender, control, ok) {
             Ok(()) => Ok(()),
             Err(refused) => Err(NotAdmitted {
-                sender: refused.sink,
+                sender: refused.sender,
                 cause: Cause::from(refused.fault),
             }),
         }

@@ -95,7 +95,7 @@ fn answer<T: Copy>(answers: &[Option<T>], polls: &mut usize) -> Option<T> {
 
 // Returns the call that polled for the result of a start.
 fn start_call(found: &Option<StartAnswer>) -> Call
-    ensures { start_poll found.now ≡ result ∷ [] }
+    ensures { result ≡ start_poll found.now }
 {
     match found {
         Some(answer) => Call::Answered(answer.event()),
@@ -105,7 +105,7 @@ fn start_call(found: &Option<StartAnswer>) -> Call
 
 // Returns the call that polled for a death.
 fn death_call(found: &Option<Label>) -> Call
-    ensures { death_poll found.now ≡ result ∷ [] }
+    ensures { result ≡ death_poll found.now }
 {
     match found {
         Some(label) => Call::Answered(Event::Death { label: *label }),

@@ -2,10 +2,11 @@
 use Rattle.std.specs.Prelude.{◌≡◌, ℕ, ◌-◌, ◌*◌, ◌^◌, ◌<◌, nat_lt, if◌then◌else◌, Option, Some, None, MatchOption}
 use Rattle.std.specs.declared.time.Duration.{Duration}
 use Rattle.std.specs.Duration.{as_nanos}
+use Rattle.svscan_rounds.specs.declared.resting.TheConstants.{REST_SECONDS}
 
 -- a rest of five seconds, in nanoseconds
 abbrev pub rest_nanos : ℕ
-rest_nanos = 5 * 10 ^ 9
+rest_nanos = REST_SECONDS * 10 ^ 9
 
 -- The nanoseconds that are left of a rest, by the running clock when it began and now. None are left if the clock went
 -- back, or could not be read.

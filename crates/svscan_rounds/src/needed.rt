@@ -5,10 +5,7 @@ ghost use Rattle.svscan_rounds.specs.Needed.{NeedsNoOtherRow, needed};
 
 use scan_table::ScanTable;
 use std::alloc::{AllocError, Global};
-use std::sync::Wait;
-use std::thread::Threads;
-use std::time::Clock;
-use svc_host::{Host, Maker};
+use svc_host::{Host, Maker, Runtime};
 
 /// Returns whether a service may have this name: it is not empty, and does not begin with a dot.
 pub(crate) fn is_service_name(name: &str) -> bool
@@ -19,7 +16,7 @@ pub(crate) fn is_service_name(name: &str) -> bool
 
 /// Returns those of some names whose rows a scan of a host needs (`others_need_no_row`). It leaves out names that no
 /// service may have, and the names of services whose parts all run.
-pub fn needed_names<M: Maker + Drop, R: Threads + Wait + Clock + Copy + Drop + Send + 'static>(
+pub fn needed_names<M: Maker + Drop, R: Runtime>(
     alloc: Global,
     host: &Host<M, R>,
     names: &[String],

@@ -1,6 +1,7 @@
-use Rattle.std.proofs.Common.{arith, ◌≤◌, length, drop, take, slice_index, refl, ap, subst, ◌∙◌}
+use Rattle.std.proofs.Common.{arith, ◌≤◌, length, drop, take, slice_index, refl, ap, subst}
+use Rattle.svc_house.specs.Mail.{posted_by, sender_in}
 use Rattle.svc_door.specs.Connection.{ConnectionState, Posts}
-use Rattle.svc_door.proofs.Posting.{kept-first, kept-some, Posts-same, Posts-one}
+use Rattle.svc_door.proofs.Posting.{kept-first, kept-some, Posts-same, Posts-one, same-sender-then, was-full-same}
 use Rattle.svc_door.proofs.connection.Connection.post_kept.Goals as goal
 
 pub returns-in-Err-clause-some : goal.returns-in-Err-clause-some
@@ -9,9 +10,15 @@ returns-in-Err-clause-some g c =
     let within : i.to ≤ length i.piece = omega arith in
     λ _. kept-some i.piece i.from i.to c.loop-self-test.true within
 
+pub returns-in-Err-clause-full : goal.returns-in-Err-clause-full
+returns-in-Err-clause-full g c =
+    let refused = c.in-Err.ensures in
+    λ _. was-full-same (sender_in c.loop-self.sender) (sender_in c.post.new.self)
+    (refused.same, refused.unposted, refused.unseen, refused.unheard) refused.full.1
+
 pub loop-self-init : goal.loop-self-init
 loop-self-init g c =
-    let accepted = g.P.ByteSink.accepted c.args.sink.now in
+    let accepted = posted_by c.args.sender.now in
     let is = c.self.view_is in
     let i = c.self.inside in
     let now : ConnectionState = record {
@@ -29,7 +36,7 @@ loop-self-init g c =
       most = c.self.invariant.3;
       posts = subst (λ (v : ConnectionState). Posts accepted accepted v now) is
           (Posts-same accepted now c.self.invariant.3);
-      home = refl;
+      same_sender = (refl, refl, refl, refl);
       unread = (
         ap (λ (v : ConnectionState). v.left) is,
         ap (λ (v : ConnectionState). v.said) is,
@@ -50,8 +57,9 @@ loop-self-preserved g c =
       to = was.to;
       piece = was.piece;
       most = was.most;
-      posts = Posts-one _ _ _ _ _ _ byte was.posts refl refl c.in-Ok.ensures.accepted kept;
-      home = c.in-Ok.ensures.home ∙ was.home;
+      posts = Posts-one _ _ _ _ _ _ byte was.posts refl refl c.in-Ok.ensures.posted kept;
+      same_sender = same-sender-then (sender_in c.args.sender.now) (sender_in c.loop-self.sender)
+          (sender_in c.post.new.self) was.same_sender c.in-Ok.ensures.same;
       unread = was.unread;
       same = was.same;
     }

@@ -1,4 +1,6 @@
 use Rattle.std.proofs.Common.{◌-◌, ◌≡◌, ◌≤◌, length, drop, take}
+use Rattle.svc_mail.specs.Ends.{IsSameSender}
+use Rattle.svc_house.specs.Mail.{posted_by, sender_in}
 use Rattle.svc_door.specs.declared.connection.TheConstants.{MOST, PIECE}
 use Rattle.svc_door.specs.Connection.{ConnectionState, Posts}
 use Rattle.svc_door.proofs.connection.Connection.post_kept.Given as goal
@@ -19,8 +21,8 @@ invariant-loop-self g l =
       to : i.to ≤ PIECE;
       piece : length i.piece ≡ PIECE;
       most : i.taken ≤ MOST;
-      posts : Posts (g.P.ByteSink.accepted l.fn.sink) (g.P.ByteSink.accepted l.sink) l.fn.self now;
-      home : g.P.ByteSink.home l.sink ≡ g.P.ByteSink.home l.fn.sink;
+      posts : Posts (posted_by l.fn.sender) (posted_by l.sender) l.fn.self now;
+      same_sender : IsSameSender (sender_in l.fn.sender) (sender_in l.sender);
       unread : (now.left ≡ l.fn.self.left) × (now.said ≡ l.fn.self.said) × (now.taken ≡ l.fn.self.taken);
       same : (now.spoke ≡ l.fn.self.spoke) × (now.watched ≡ l.fn.self.watched);
     }

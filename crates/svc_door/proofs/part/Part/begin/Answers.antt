@@ -1,7 +1,8 @@
+use Rattle.svc_house.specs.Mail.{posted_by}
 use Rattle.svc_door.proofs.Posting.{posted-beginning}
 use Rattle.svc_door.proofs.part.Part.begin.Goals as goal
 
 pub invariant_of-self : goal.invariant_of-self
-invariant_of-self g c = record {
-  posted = ∣ posted-beginning (g.P.ByteSink.accepted c.args.self.now.sink) _ _ _ _ c.new.result c.new.ensures ∣₁;
+invariant_of-self c = record {
+  posted = ∣ posted-beginning (posted_by c.args.self.now.sender) _ _ _ _ c.new.result c.new.ensures ∣₁;
 }

@@ -1,4 +1,5 @@
 use Rattle.std.proofs.Common.{inr, refl, subst}
+use Rattle.svc_house.specs.Mail.{posted_by}
 use Rattle.svc_door.specs.Turns.{HasTurn}
 use Rattle.svc_door.proofs.part.Part.serve.Goals as goal
 
@@ -10,6 +11,6 @@ returns-in-Ok-clause-serves g c =
       one.2,
       c.hear.result,
       refl,
-      subst (λ sink. HasTurn (g.P.ByteSink.accepted sink) (g.P.ByteSink.accepted c.hear.new.self.sink) c.args.now one.0
-          c.hear.new.self.connection c.hear.result) c.in-Ok.ensures.sink (c.hear.ensures.hears one.0 one.1),
+      subst (λ sender. HasTurn (posted_by sender) (posted_by c.hear.new.self.sender) c.args.now one.0
+          c.hear.new.self.connection c.hear.result) c.in-Ok.ensures.sender (c.hear.ensures.hears one.0 one.1),
     )

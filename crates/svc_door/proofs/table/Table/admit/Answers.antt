@@ -2,7 +2,7 @@ use Rattle.std.proofs.Common.{Some, ◌∙◌, ap, sym}
 use Rattle.svc_door.proofs.table.Table.admit.Goals as goal
 
 pub returns-in-Ok-clause-admitted : goal.returns-in-Ok-clause-admitted
-returns-in-Ok-clause-admitted g c =
+returns-in-Ok-clause-admitted c =
     let watched = c.watch.ensures in
     let begun = c.new-part.ensures in
     record {
@@ -10,7 +10,7 @@ returns-in-Ok-clause-admitted g c =
       part = c.watch.new.part;
       begins = record {
         number = watched.number ∙ begun.number;
-        sink = watched.sink ∙ begun.sink;
+        sender = watched.sender ∙ begun.sender;
         due = watched.due ∙ begun.due;
         sockets = (watched.sockets.0 ∙ begun.listeners.0, watched.sockets.1 ∙ begun.listeners.1);
         watched = (

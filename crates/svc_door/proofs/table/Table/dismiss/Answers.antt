@@ -6,7 +6,7 @@ use Rattle.svc_door.proofs.Opened.{open-dismissed}
 use Rattle.svc_door.proofs.table.Table.dismiss.Goals as goal
 
 pub invariant_of-self-2 : goal.invariant_of-self-2
-invariant_of-self-2 g c =
+invariant_of-self-2 c =
     let slot = c.in_ok-slot.slot in
     let left = filter_same _ (λ (x : ℕ). not (x == slot)) _ (λ x b f' k. search rules) _ _ c.retain.ensures.filtered in
     let removed = c.try_remove.ensures.updates in
@@ -18,7 +18,7 @@ invariant_of-self-2 g c =
     }
 
 pub returns-clause-dismissed : goal.returns-clause-dismissed
-returns-clause-dismissed g c =
+returns-clause-dismissed c =
     let slot = c.in_ok-slot.slot in
     let part = c.in_ok-part.part in
     let had = sym c.try_remove.ensures.value ∙ c.in_ok-part.was in
@@ -29,7 +29,7 @@ returns-clause-dismissed g c =
       part = part;
       had = had;
       number_is = cc;
-      sink_is = sym c.into_sink.ensures;
+      sender_is = sym c.into_sender.ensures;
       is_free = c.try_remove.ensures.updates.changed;
       others = c.try_remove.ensures.updates.others;
       turns = filter_same _ (λ (x : ℕ). not (x == slot)) _ (λ x b f' k. search rules) _ _ c.retain.ensures.filtered;
