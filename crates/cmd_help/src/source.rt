@@ -4,4 +4,4 @@
 pub(crate) const KIT: &str = "rattle-kit-13f logic dac8208d650f15bf";
 
 /// The sum of its sources, as packaging/source-sum says it.
-pub(crate) const SOURCE: &str = "26708a173034b81da6d9b516ff54fe3e011224a867fb47c19ed15da5aa29e13f";
+pub(crate) const SOURCE: &str = "ecf3fe9ec0f62a3d267ee5aed4dd426dd2e27b76135b77f914695a61ff96664f";
