@@ -2300,6 +2300,19 @@ descriptors_reported() {
   is 'as many: nothing is reported' '' "$(cat reported2)"
 }
 
+# A hundred services begin in one round. They get their sockets in batches, not after all have begun, and svscan has just the
+# descriptors that it counts.
+batches() {
+  local each
+  for each in $(seq 100 199); do sleeper "d/s$each"; done
+  under=(bash -c 'ulimit -n 424; exec "$@"' bash)
+  start reported d
+  under=()
+  soon 'all are up, and svc reaches them' 10 all_are is_settled d/s{100..199}
+  is 'nothing is reported' '' "$(cat reported)"
+  lies 'begun after the first socket' 50 100 "$(find d -name starts -newer "$(ls -tr d/*/supervise/ok | head -n 1)" | wc -l)"
+}
+
 # A folder that does not change is not listed again, and what comes to it is seen.
 unchanged() {
   command -v strace >/dev/null || return
@@ -2766,7 +2779,7 @@ play_all() {
 
 scenarios=(life modes_kept delegated exits endings finishes bounded_finish timed_kill timed_kill_left ready ready_left bridged backs_off backs_off_left killed_finish no_run links stubborn killed_service killed_svscan killed_early unnamed starved unwritten new_boot other_user earlier_record elsewhere changes twice names silent
   connections no_supervise unheard rounds untaken own refused last_words upgraded unread ordered first_process two_services child begins_anew shortage
-  descriptors_reported unchanged resting full_disk full_put_down placeless held_locks held_pair many_bytes raised_limit
+  descriptors_reported batches unchanged resting full_disk full_put_down placeless held_locks held_pair many_bytes raised_limit
   odd_environment unreaped bounded_end no_folder folder_away apart)
 # These keep every processor busy, and have the machine for themselves.
 crowds=(killed_logger late_logger last_entries given_back many)

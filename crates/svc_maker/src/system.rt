@@ -58,8 +58,8 @@ where
     door: Door,
     // The time until which locks are tried in this round.
     patience: Patience,
-    // The number of descriptors that this process may have, and how many parts were opened in this round. These parts
-    // get their sockets at the end of the round.
+    // The number of descriptors that this process may have, and how many parts were opened in this round and have no
+    // sockets yet.
     allowed: u64,
     waiting: u64,
     // This pipe is at its end once the other end is dropped: then outputs watch their flows.
@@ -302,6 +302,7 @@ where
                 return Err(NotAdmitted { sender, cause });
             }
         };
+        self.waiting = self.waiting.saturating_sub(1);
         match self.door.admit(&self.runtime, number, sender, control, ok) {
             Ok(()) => Ok(()),
             Err(refused) => Err(NotAdmitted {
