@@ -4,4 +4,4 @@
 pub(crate) const KIT: &str = "rattle-kit-13f logic dac8208d650f15bf";
 
 /// The sum of its sources, as packaging/source-sum says it.
-pub(crate) const SOURCE: &str = "ecf3fe9ec0f62a3d267ee5aed4dd426dd2e27b76135b77f914695a61ff96664f";
+pub(crate) const SOURCE: &str = "b99f2d81a17244a4b38cc27a817b37b8d19f007fc392473af3a0de95ced2ccb0";

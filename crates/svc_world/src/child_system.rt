@@ -9,7 +9,7 @@ use tai_status::Label;
 /// The children, papers and clock of one service. Contracts see the calls and their results, in order (`calls`), while
 /// they are recorded. A system that has no memory for more calls stops recording them, and does not resume.
 pub trait ChildSystem {
-    ghost use Rattle.std.specs.Prelude.{◌≡◌, ◌<◌, ◌≤◌, true, Option, None, List, [], ◌∷◌, IfSome, length};
+    ghost use Rattle.std.specs.Prelude.{◌≡◌, ◌<◌, ◌≤◌, true, Option, None, List, IfSome, length};
     ghost use Rattle.svc_house.specs.Calls.{MadeWhileKept};
     ghost use Rattle.svc_world.specs.Calls.{Call, Spawned, SoughtDeath, Lingered, Signalled, Wrote, Said};
     ghost use Rattle.svc_world.specs.Calls.{SoughtLeftover, Adopted, SoughtLate, SoughtTick, ReadTick, ReadClock};
