@@ -4,4 +4,4 @@
 pub(crate) const KIT: &str = "rattle-kit-13f logic dac8208d650f15bf";
 
 /// The sum of its sources, as packaging/source-sum says it.
-pub(crate) const SOURCE: &str = "b99f2d81a17244a4b38cc27a817b37b8d19f007fc392473af3a0de95ced2ccb0";
+pub(crate) const SOURCE: &str = "db7df7c86854991ee4cb74561ba88f284b85e5eab34525ac2cc4f954aa52c2dd";

@@ -22,7 +22,7 @@ pub struct NotAdmitted {
 
 /// What the operating system does for the parts of services. Contracts see its calls (`MadeWhileKept`).
 pub trait PartSystem {
-    ghost use Rattle.std.specs.Prelude.{◌≡◌, Option, None, List, [], string_bytes, IfOk, IfErr};
+    ghost use Rattle.std.specs.Prelude.{◌≡◌, Option, Some, None, List, [], string_bytes, IfOk, IfErr, OnOk};
     ghost use Rattle.std.specs.Result.{result_err};
     ghost use Rattle.svc_host.specs.Answers.{answered};
     ghost use Rattle.svc_house.specs.Calls.{MadeWhileKept};
@@ -59,8 +59,10 @@ pub trait PartSystem {
 
     /// Opens the folder at a path and takes its lock. Both are kept until the folder is dropped.
     fn open(&mut self, path: String) -> Result<Self::Folder, FolderFault>
-        ensures calls { MadeWhileKept calls (Opened (string_bytes path) (result_err result)) self.old self.new }
-        ensures path { IfOk result (λ folder. Self.Folder.path folder ≡ string_bytes path) };
+        ensures opened { OnOk result (MadeWhileKept calls (Opened (string_bytes path) None) self.old self.new) }
+        ensures path { IfOk result (λ folder. Self.Folder.path folder ≡ string_bytes path) }
+        ensures fault { IfErr result (λ fault.
+            MadeWhileKept calls (Opened (string_bytes path) (Some fault)) self.old self.new) };
 
     /// Opens the folder at a path in which svscan itself is served, and takes its lock. Makes the folder if it is
     /// missing, and changes nothing there while another svscan has the lock. Both are kept until the folder is dropped.
