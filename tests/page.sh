@@ -195,7 +195,7 @@ bytes "$(record 7200 4711 $up)" >s/supervise/status
 trace s 0 starting "$(record 7300 0 $up)" 'started 4711 7200' 'clock 7199'
 # browse OPTIONS..: the browser on the page, with a home of its own
 browse() {
-  HOME=$room timeout 60 "$browser" --no-sandbox --disable-gpu --user-data-dir="$room/profile" --virtual-time-budget=2000 \
+  HOME=$room timeout 60 "$browser" --headless --no-sandbox --disable-gpu --user-data-dir="$room/profile" --virtual-time-budget=2000 \
     "$@" "file://$room/page.html" 2>browsed
 }
 page 'browser' s "${names[@]}"

@@ -2422,7 +2422,7 @@ resting() {
   soon 'fifty more run' 30 pairs_run 60
   sleep 2
   after=$(memory "$svscan")
-  lies 'KB a pair' 40 128 "$(((after - before) / 50))"
+  lies 'KB a pair' 40 132 "$(((after - before) / 50))"
 }
 
 # fill and room_again: the folder of services has no room for another byte, and has it again. On a small file system of its
