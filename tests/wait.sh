@@ -83,9 +83,6 @@ while True:
 # looked NUMBER FOLDER: whether it was looked at so often
 looked() { [ "$(stat -c %s "$2/supervise/looks")" -ge "$1" ]; }
 
-# bytes DIGITS: the bytes of these hexadecimal digits
-bytes() { printf "$(printf '%s' "$1" | sed 's/../\\x&/g')"; }
-
 # status FOLDER DIGITS: its status record, as supervise replaces it
 status() {
   bytes "$2" >"$1/supervise/status.new"
