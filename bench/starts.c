@@ -2,7 +2,7 @@
  * can.
  *
  * starts each FOLDER: holds for each service in FOLDER what svscan holds, 4 descriptors: the folder, the lock and two
- * sockets; for a pair 14: the same of its logger, the FIFO and the pipe between them, and three copies. Four threads begin
+ * sockets; for a pair 12: the same of its logger, the FIFO twice, and the pipe between them. Four threads begin
  * the children by posix_spawn, as the library does that svscan is written with, each child with all descriptors closed. It
  * does no other work: no machine, no record, no trace, no relay.
  *
@@ -12,7 +12,8 @@
  * starts whole FOLDER: the same as each, but each service has two threads, as svscan gives it: one that writes the record
  * before the start, begins the child, and writes which process it is, how often it was started, and the record; and one
  * that waits for the child. As svscan does, it makes the sockets once all services were given to their threads. It has no
- * machine, no trace, and keeps nothing. */
+ * machine, no trace, and keeps nothing. After a TERM it ends each child, and writes what svscan writes of an end: the place
+ * and the record three times, how the child ended, how often, and a trace. Then the sockets and both threads go. */
 #define _GNU_SOURCE
 #include <dirent.h>
 #include <errno.h>
@@ -32,21 +33,22 @@
 #include <sys/wait.h>
 #include <unistd.h>
 
-enum { THREADS = 4, MOST = 20000, COPIES = 3 };
+enum { THREADS = 4, MOST = 20000, COPIES = 1 };
 
 struct part {
 	char path[300];
 	int input, output, folder;
+	int is_dead;
 	pid_t child;
 	pthread_mutex_t lock;
 	pthread_cond_t begun;
 };
 
 static struct part *parts;
-static int made, taken, apart, whole;
+static int made, taken, apart, whole, ends_all, ended;
 static pthread_barrier_t ready;
 static pthread_mutex_t lock = PTHREAD_MUTEX_INITIALIZER;
-static pthread_cond_t more = PTHREAD_COND_INITIALIZER;
+static pthread_cond_t more = PTHREAD_COND_INITIALIZER, end = PTHREAD_COND_INITIALIZER, last = PTHREAD_COND_INITIALIZER;
 extern char **environ;
 
 static int must(int answer, const char *what) {
@@ -130,7 +132,7 @@ static int own(int descriptor, int flags) {
 static pid_t begin(const struct part *part) {
 	posix_spawn_file_actions_t actions;
 	posix_spawnattr_t how;
-	sigset_t all;
+	sigset_t all, none;
 	pid_t pid;
 	char *words[] = {"./run", NULL};
 	int input = own(part->input, O_RDONLY), output = own(part->output, O_RDWR);
@@ -141,8 +143,10 @@ static pid_t begin(const struct part *part) {
 	posix_spawn_file_actions_addclosefrom_np(&actions, 3);
 	posix_spawnattr_init(&how);
 	sigfillset(&all);
+	sigemptyset(&none);
 	posix_spawnattr_setsigdefault(&how, &all);
-	posix_spawnattr_setflags(&how, POSIX_SPAWN_SETSIGDEF);
+	posix_spawnattr_setsigmask(&how, &none);
+	posix_spawnattr_setflags(&how, POSIX_SPAWN_SETSIGDEF | POSIX_SPAWN_SETSIGMASK);
 	errno = posix_spawn(&pid, "./run", &actions, &how, words, environ);
 	if (errno) must(-1, part->path);
 	posix_spawn_file_actions_destroy(&actions);
@@ -163,7 +167,34 @@ static void put(const struct part *part, const char *name, const char *bytes, si
 	must(rename(beside, place), place);
 }
 
-/* What the thread of a part does: the record, the child, which process it is, how often it was started, the record. */
+/* The place of a part is written over, and then its record is replaced. */
+static void record(int place, const struct part *part, const char *status) {
+	char line[64] = {0};
+	must(pwrite(place, line, sizeof line, 0), "place");
+	put(part, "status", status, 20);
+}
+
+/* The end of a part: TERM to its child, and once that is dead, what is written of it. */
+static void end_of(struct part *part, const char *status) {
+	char room[400], trace[500] = {0};
+	int place = must(open(path(room, part->path, "supervise/place"), O_RDWR | O_CREAT | O_CLOEXEC, 0600), room);
+	record(place, part, status);
+	kill(part->child, SIGTERM);
+	pthread_mutex_lock(&part->lock);
+	while (!part->is_dead) pthread_cond_wait(&part->begun, &part->lock);
+	pthread_mutex_unlock(&part->lock);
+	put(part, "exit", trace, 60);
+	put(part, "counts", "1 1\n", 4);
+	record(place, part, status);
+	record(place, part, status);
+	put(part, "trace", trace, sizeof trace);
+	unlink(path(room, part->path, "supervise/control"));
+	unlink(path(room, part->path, "supervise/ok"));
+	close(place);
+}
+
+/* What the thread of a part does: the record, the child, which process it is, how often it was started, the record. Then it
+ * waits for the end of all. */
 static void *serve(void *given) {
 	struct part *part = given;
 	char status[20] = {0}, line[600];
@@ -182,7 +213,14 @@ static void *serve(void *given) {
 	put(part, "status", status, sizeof status);
 	sleep(1);
 	put(part, "status", status, sizeof status);
-	for (;;) pause();
+	pthread_mutex_lock(&lock);
+	while (!ends_all) pthread_cond_wait(&end, &lock);
+	pthread_mutex_unlock(&lock);
+	end_of(part, status);
+	pthread_mutex_lock(&lock);
+	ended++;
+	pthread_cond_signal(&last);
+	pthread_mutex_unlock(&lock);
 	return given;
 }
 
@@ -193,6 +231,10 @@ static void *reap(void *given) {
 	while (!part->child) pthread_cond_wait(&part->begun, &part->lock);
 	pthread_mutex_unlock(&part->lock);
 	waitpid(part->child, NULL, 0);
+	pthread_mutex_lock(&part->lock);
+	part->is_dead = 1;
+	pthread_cond_signal(&part->begun);
+	pthread_mutex_unlock(&part->lock);
 	return given;
 }
 
@@ -217,7 +259,11 @@ int main(int count, char **words) {
 	pthread_t thread;
 	char room[400], log[400];
 	int ends[2];
+	sigset_t term;
 	if (count != 3) return 100;
+	sigemptyset(&term);
+	sigaddset(&term, SIGTERM);
+	pthread_sigmask(SIG_BLOCK, &term, NULL);
 	apart = !strcmp(words[1], "apart");
 	whole = !strcmp(words[1], "whole");
 	getrlimit(RLIMIT_NOFILE, &most);
@@ -252,5 +298,13 @@ int main(int count, char **words) {
 		listen_in(services[i]->d_name);
 		if (!access(log, F_OK)) listen_in(log);
 	}
-	for (;;) pause();
+	int sign;
+	sigwait(&term, &sign);
+	if (!whole) return 0;
+	pthread_mutex_lock(&lock);
+	ends_all = 1;
+	pthread_cond_broadcast(&end);
+	while (ended < made) pthread_cond_wait(&last, &lock);
+	pthread_mutex_unlock(&lock);
+	return 0;
 }

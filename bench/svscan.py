@@ -12,25 +12,40 @@ program, room, count, starts = sys.argv[1], sys.argv[2], int(sys.argv[3]), sys.a
 
 
 class Suite:
-    """One suite: how its scanner starts, what its supervisors are called, how it is asked to bring one down, its logger."""
+    """One suite: how its scanner starts, what its supervisors are called, how it is asked to bring services down and to give
+    them up, its logger."""
 
-    def __init__(self, name, scanner, supervisors, down, logger):
-        self.name, self.scanner, self.supervisors, self.down, self.logger = name, scanner, supervisors, down, logger
+    def __init__(self, name, scanner, supervisors, down, end, logger):
+        self.name, self.scanner, self.supervisors = name, scanner, supervisors
+        self.down, self.end, self.logger = down, end, logger
 
     def is_there(self):
         return all(shutil.which(words[0]) for words in (self.scanner, self.down))
 
 
 SUITES = [
-    Suite("dtools", [program, "svscan"], ["dtools"], [program, "svc", "-d"], f"'{program}' multilog s16777215 n100 ./main"),
-    Suite("daemontools", ["svscan"], ["svscan", "supervise"], ["svc", "-d"], "multilog s16777215 n100 ./main"),
-    Suite("runit", ["runsvdir"], ["runsvdir", "runsv"], ["sv", "-w", "0", "down"], "svlogd ./main"),
-    Suite("s6", ["s6-svscan", "-c", "4000"], ["s6-svscan", "s6-supervise"], ["s6-svc", "-d"], "s6-log n100 s16777215 ./main"),
+    Suite(
+        "dtools", [program, "svscan"], ["dtools"], [program, "svc", "-d"], [program, "svc", "-dx"],
+        f"'{program}' multilog s16777215 n100 ./main",
+    ),
+    Suite(
+        "daemontools", ["svscan"], ["svscan", "supervise"], ["svc", "-d"], ["svc", "-dx"], "multilog s16777215 n100 ./main"
+    ),
+    Suite(
+        "runit", ["runsvdir"], ["runsvdir", "runsv"], ["sv", "-w", "0", "down"], ["sv", "-w", "0", "exit"], "svlogd ./main"
+    ),
+    Suite(
+        "s6", ["s6-svscan", "-c", "4000"], ["s6-svscan", "s6-supervise"], ["s6-svc", "-d"], ["s6-svc", "-xd"],
+        "s6-log n100 s16777215 ./main",
+    ),
 ]
 
 # What one process reaches that only begins the children (starts.c), with one table of descriptors or several; and one that
 # writes beside that what svscan writes of each.
-LEAST = [Suite(f"starts {how}", [starts, how], ["starts"], [starts], SUITES[0].logger) for how in ("each", "apart", "whole")]
+LEAST = [
+    Suite(f"starts {how}", [starts, how], ["starts"], [starts], ["kill"], SUITES[0].logger)
+    for how in ("each", "apart", "whole")
+]
 
 # How often all come up, the suites in turn.
 TURNS = 5
@@ -202,6 +217,42 @@ def services(suite):
     end_all(suite)
 
 
+def end_in_turn(suites):
+    """How long until all services have ended after one command for all: the median of some times, the suites in turn."""
+    took = {suite.name: [] for suite in suites}
+    for _ in range(TURNS):
+        for suite in suites:
+            folder, names, _ = bring_up(suite, False)
+            time.sleep(3)
+            numbers = [read(f"{folder}/{name}/up").strip() for name in names]
+            least = [str(number) for number in supervisors(suite)] if suite in LEAST else []
+            begin = time.monotonic()
+            asked = one_by_one(suite, least or [f"{folder}/{name}" for name in names])
+            for number in numbers:
+                wait_until(lambda: not os.path.exists(f"/proc/{number}"))
+            took[suite.name].append(1000 * (time.monotonic() - begin))
+            asked.wait()
+            end_all(suite)
+            shutil.rmtree(folder, ignore_errors=True)
+    for suite in suites:
+        report(suite, f"{count} are ended by one command", "ms", statistics.median(took[suite.name]))
+
+
+def one_by_one(suite, targets):
+    """Asks for the end of services: by one command, or by one for each where it takes only one."""
+    if suite.name == "s6":
+        return subprocess.Popen(["xargs", "-n1", *suite.end], stdin=stream_of(targets))
+    return subprocess.Popen([*suite.end, *targets], stdout=subprocess.DEVNULL)
+
+
+def stream_of(lines):
+    """A pipe from which these lines are read."""
+    reader, writer = os.pipe()
+    with open(writer, "w") as out:
+        out.write("".join(f"{line}\n" for line in lines))
+    return reader
+
+
 def pairs(suite):
     """1,000 pairs: what their supervisors take of memory, and of a core."""
     bring_up(suite, True)
@@ -266,6 +317,7 @@ def report(suite, what, unit, figure):
 there = [suite for suite in SUITES if suite.is_there()]
 for are_pairs in (False, True):
     bring_up_in_turn(there + LEAST, are_pairs)
+end_in_turn(there + LEAST[-1:])
 for suite in there:
     for measure in (services, pairs, one_pair):
         try:

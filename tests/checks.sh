@@ -39,8 +39,7 @@ while True:
 
 # leave: ends what listens, and takes the room away
 leave() {
-  local pid
-  for pid in "${listeners[@]}"; do kill "$pid" 2>/dev/null; done
+  own "${listeners[@]}" | xargs -r kill 2>/dev/null
   chmod -R u+rwx "$room"
   rm -rf "$room"
 }
@@ -48,13 +47,22 @@ leave() {
 # bytes DIGITS: the bytes of these hexadecimal digits
 bytes() { printf "$(printf '%s' "$1" | sed 's/../\\x&/g')"; }
 
-# kill_group NUMBER: kills a process group that this script started. If the system has given the number to another script's
-# process since then, that one is in another folder next to `room`, and is left alone.
+# folder_of NUMBER: the working folder of a process, if there is one with this number
+folder_of() { readlink "/proc/$1/cwd" 2>/dev/null; }
+
+# own NUMBER..: those of these processes that work in a folder of this script. Once a process has ended, the system gives its
+# number to another one, which may be another script's.
+own() {
+  local number
+  for number in "$@"; do
+    case $(folder_of "$number") in "$room" | "$room"/* | "$room "*) echo "$number" ;; esac
+  done
+}
+
+# kill_group NUMBER: kills a process group that this script started. If another process has the number of its leader since
+# then, the group is gone.
 kill_group() {
-  case $(readlink "/proc/$1/cwd" 2>/dev/null) in
-    "$room" | "$room"/*) ;;
-    "${room%/*}"/*) return ;;
-  esac
+  [ -z "$(folder_of "$1")" ] || [ -n "$(own "$1")" ] || return 0
   kill -KILL -- "-$1" 2>/dev/null
 }
 

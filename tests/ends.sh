@@ -5,13 +5,8 @@
 top=$(realpath "$(dirname "$0")/..")
 . "$top/tests/checks.sh" "$1"
 groups=()
-# the processes of services that are left: those of the file `numbers` that run in a folder of this script
-left() {
-  local number
-  while read -r number; do
-    case $(readlink "/proc/$number/cwd" 2>/dev/null) in "$room"/*) echo "$number" ;; esac
-  done <numbers
-}
+# the processes of services that are left
+left() { own $(<numbers); }
 leave() {
   for group in "${groups[@]}"; do kill_group "$group"; done
   cd "$room" && [ -e numbers ] && left | xargs -r kill -KILL 2>/dev/null
@@ -80,7 +75,7 @@ limit_of() {
   wait "$begun"
 }
 is 'the limit of open files stays' 200 "$(limit_of 200)"
-is 'it is raised to what twice these services need' 128 "$(limit_of 50)"
+is 'it is raised to what twice these services need' 124 "$(limit_of 50)"
 
 # svscan-stop: what ignores TERM is killed, its logger writes its last lines, and svscan ends.
 service d/stubborn <<'END'

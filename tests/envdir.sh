@@ -9,8 +9,7 @@ export DTOOLS=$program
 script=$top/scripts/envdir
 svscan=
 leave() {
-  [ -n "$svscan" ] && kill -KILL "$svscan" 2>/dev/null
-  [ -e daemons ] && xargs kill -KILL <daemons 2>/dev/null
+  own $svscan $(cat daemons 2>/dev/null) | xargs -r kill -KILL 2>/dev/null
   rm -rf "$room"
 }
 trap leave EXIT

@@ -8,7 +8,7 @@ top=$(realpath "$(dirname "$0")/..")
 . "$top/tests/checks.sh" "$1"
 leave() {
   for suite in ours theirs; do [ -e "$suite.svscan" ] && kill_group "$(cat $suite.svscan)"; done
-  [ -e numbers ] && xargs kill -KILL <numbers 2>/dev/null
+  [ -e numbers ] && own $(<numbers) | xargs -r kill -KILL 2>/dev/null
   rm -rf "$room"
 }
 trap leave EXIT

@@ -5,12 +5,6 @@
 # sockets to listen at.
 # gate: 30 seconds, needs python3
 . "$(dirname "$0")/checks.sh" "$1"
-listeners=()
-
-leave() {
-  for pid in "${listeners[@]}"; do kill "$pid" 2>/dev/null; done
-  rm -rf "$room"
-}
 trap leave EXIT
 
 # ended NAME STATUS PRINTED REPORTED COMMAND WORDS..

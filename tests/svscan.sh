@@ -2277,7 +2277,7 @@ shortage() {
   so 'the service too' lives "$(process "${up[0]:-none}")"
 }
 
-# Ten services and three pairs want 24 + 10 * 4 + 3 * 14 descriptors: with one less that is reported, at once and once, and with
+# Ten services and three pairs want 24 + 10 * 4 + 3 * 12 descriptors: with one less that is reported, at once and once, and with
 # as many all are up.
 descriptors_reported() {
   local each
@@ -2287,14 +2287,14 @@ descriptors_reported() {
     : >"$each/file"
     sleeper "$each/.hidden"
   done
-  under=(bash -c 'ulimit -n 105; exec "$@"' bash)
+  under=(bash -c 'ulimit -n 99; exec "$@"' bash)
   start reported d
-  under=(bash -c 'ulimit -n 106; exec "$@"' bash)
+  under=(bash -c 'ulimit -n 100; exec "$@"' bash)
   start reported2 e
   under=()
   soon 'as many: up' 8 all_are is_settled e/s{0..9} e/p{0..2} e/p{0..2}/log
-  soon 'one less: reported' 3 holds '^svscan: 106 descriptors are needed, 105 are allowed$' reported
-  is 'one less: first of all' 'svscan: 106 descriptors are needed, 105 are allowed' "$(head -n 1 reported)"
+  soon 'one less: reported' 3 holds '^svscan: 100 descriptors are needed, 99 are allowed$' reported
+  is 'one less: first of all' 'svscan: 100 descriptors are needed, 99 are allowed' "$(head -n 1 reported)"
   sleep 6
   is 'one less: once' 1 "$(grep -c 'descriptors are needed' reported)"
   is 'as many: nothing is reported' '' "$(cat reported2)"

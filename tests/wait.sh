@@ -7,8 +7,8 @@
 export LC_ALL=C
 listeners=()
 leave() {
-  [ -n "${svscan:-}" ] && kill -KILL -- "-$svscan" 2>/dev/null
-  for pid in "${listeners[@]}"; do kill -KILL "$pid" 2>/dev/null; done
+  [ -n "${svscan:-}" ] && kill_group "$svscan"
+  own "${listeners[@]}" | xargs -r kill -KILL 2>/dev/null
   for _ in 1 2 3 4 5; do rm -rf "$room" 2>/dev/null && break; sleep 0.2; done
 }
 trap leave EXIT
@@ -588,6 +588,6 @@ ended 'web comes again: at once' 0 '' -t 100 services/web
 begun 'svscan is killed' -d services/web
 kill -KILL "$svscan"
 over 'svscan is killed' 102 'wait: services/web: supervise not running'
-kill -KILL -- "-$svscan" 2>/dev/null
+kill_group "$svscan"
 kill -KILL "$(od -An -tu4 -j12 -N4 --endian=little services/web/supervise/status | tr -d ' ')" 2>/dev/null
 counts wait

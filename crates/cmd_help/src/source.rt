@@ -4,4 +4,4 @@
 pub(crate) const KIT: &str = "rattle-kit-13f logic dac8208d650f15bf";
 
 /// The sum of its sources, as packaging/source-sum says it.
-pub(crate) const SOURCE: &str = "db7df7c86854991ee4cb74561ba88f284b85e5eab34525ac2cc4f954aa52c2dd";
+pub(crate) const SOURCE: &str = "5c508a1b153f5579605e2407c30fb80846b3c79b0c67396bc08a763407c247fc";

@@ -5,9 +5,10 @@ use Rattle.std.specs.List.{AllByRecursion}
 use Rattle.std.proofs.lemmas.List.{map-append}
 use Rattle.std.proofs.lemmas.Grind.{flat_map-append}
 use Rattle.tai_status.specs.Label.{Tai64n}
-use Rattle.cmd_svc.specs.Sight.{Sight}
+use Rattle.svc_client.specs.Sight.{Sight}
+use Rattle.cmd_why.specs.Texts.{Knowledge}
 use Rattle.cmd_report.specs.declared.found.Found.{Found}
-use Rattle.cmd_report.specs.Finds.{Files, FindsFront, FindsOne, FindsWords, folders_of}
+use Rattle.cmd_report.specs.Finds.{FindsOne, FindsWords, folders_of}
 use Rattle.cmd_report.proofs.Finds.{finds_words-then}
 use Rattle.cmd_page.specs.Escape.{escaped}
 use Rattle.cmd_page.specs.Page.{Row, end_text, head_text, heading_text, page_text, row_text}
@@ -37,32 +38,32 @@ grown now rows row before text after done one =
     ∙ ap (λ (t : List ℕ). before ++ t) (sym (flat_map-append (row_text now) rows (row ∷ [])))
 
 -- One more service
-pub adds_rows-then : (files : Files) (now : Tai64n) (words : List (List ℕ)) (word : List ℕ) (old middle new : Sight)
-    (before text after : List ℕ) (found : Found) → AddsRows files now words old middle before text
-    → FindsOne files found middle new → found.folder.now ≡ word → AddsRow files.known now found text after
-    → AddsRows files now (words ++ word ∷ []) old new before after
-adds_rows-then files now words word old middle new before text after found done one same adds = record {
+pub adds_rows-then : (known : Knowledge) (now : Tai64n) (words : List (List ℕ)) (word : List ℕ) (old middle new : Sight)
+    (before text after : List ℕ) (found : Found) → AddsRows known now words old middle before text
+    → FindsOne found middle new → found.folder.now ≡ word → AddsRow known now found text after
+    → AddsRows known now (words ++ word ∷ []) old new before after
+adds_rows-then known now words word old middle new before text after found done one same adds = record {
   rows = done.rows ++ adds.row ∷ [];
-  finds = subst (λ (founds : List Found). FindsWords files (words ++ word ∷ []) founds old new)
+  finds = subst (λ (founds : List Found). FindsWords (words ++ word ∷ []) founds old new)
       (founds-then done.rows adds.row found adds.found_is)
-      (finds_words-then files words (founds_of done.rows) word found old middle new done.finds same one);
-  are = all-then (IsRow files.known) done.rows adds.row done.are adds.is;
+      (finds_words-then words (founds_of done.rows) word found old middle new done.finds same one);
+  are = all-then (IsRow known) done.rows adds.row done.are adds.is;
   text = grown now done.rows adds.row before text after done.text adds.text;
 }
 
 -- No page: nothing was looked at, or everything was.
-pub none-looked : (files : Files) (words : List (List ℕ)) (old middle : Sight) (now : Tai64n)
-    → ReadsClock old middle now → DrawsNone files words old middle
-none-looked files words old middle now read = record {
+pub none-looked : (words : List (List ℕ)) (old middle : Sight) (now : Tai64n)
+    → ReadsClock old middle now → DrawsNone words old middle
+none-looked words old middle now read = record {
   now = now;
   middle = middle;
   read = read;
   finds = record { founds = []; rest = words; words_are = refl; finds = refl };
 }
 
-pub all-looked : (files : Files) (words : List (List ℕ)) (old middle new : Sight) (now : Tai64n) (before after : List ℕ)
-    → ReadsClock old middle now → AddsRows files now words middle new before after → DrawsNone files words old new
-all-looked files words old middle new now before after read done = record {
+pub all-looked : (known : Knowledge) (words : List (List ℕ)) (old middle new : Sight) (now : Tai64n) (before after : List ℕ)
+    → ReadsClock old middle now → AddsRows known now words middle new before after → DrawsNone words old new
+all-looked known words old middle new now before after read done = record {
   now = now;
   middle = middle;
   read = read;

@@ -1,21 +1,21 @@
 -- How `svstat` ends, by its words; the first one may ask for a page.
 use Rattle.std.specs.Prelude.{◌≡◌, ◌≢◌, ℕ, List, [], ◌∷◌, codes}
 use Rattle.tai_status.specs.Counted.{Device}
-use Rattle.cmd_svc.specs.Sight.{Sight}
+use Rattle.svc_client.specs.Sight.{Sight}
 use Rattle.cmd_report.specs.Ends.{ReportEnds}
-use Rattle.cmd_report.specs.Finds.{Files}
+use Rattle.cmd_why.specs.Texts.{Knowledge}
 use Rattle.cmd_page.specs.PageEnds.{PageEnds}
 
 -- The first word asks for a page about the services after it. Or it names another form, or a service.
-pub record FormEnds (files : Files) (word : List ℕ) (services : List (List ℕ)) (status : ℕ) (sight sees : Sight)
+pub record FormEnds (known : Knowledge) (word : List ℕ) (services : List (List ℕ)) (status : ℕ) (sight sees : Sight)
     (writer writes faults reports : Device) : Type 0 where
-  pub html : word ≡ codes "--html" → PageEnds files services status sight sees writer writes faults reports
+  pub html : word ≡ codes "--html" → PageEnds known services status sight sees writer writes faults reports
   pub others : word ≢ codes "--html"
-      → ReportEnds files (word ∷ services) status sight sees writer writes faults reports
+      → ReportEnds (word ∷ services) status sight sees writer writes faults reports
 
-abbrev pub ViewEnds : (files : Files) (words : List (List ℕ)) (status : ℕ) (sight sees : Sight)
+abbrev pub ViewEnds : (known : Knowledge) (words : List (List ℕ)) (status : ℕ) (sight sees : Sight)
     (writer writes faults reports : Device) → Type 0
-ViewEnds files [] status sight sees writer writes faults reports =
-    ReportEnds files [] status sight sees writer writes faults reports
-ViewEnds files (word ∷ services) status sight sees writer writes faults reports =
-    FormEnds files word services status sight sees writer writes faults reports
+ViewEnds known [] status sight sees writer writes faults reports =
+    ReportEnds [] status sight sees writer writes faults reports
+ViewEnds known (word ∷ services) status sight sees writer writes faults reports =
+    FormEnds known word services status sight sees writer writes faults reports

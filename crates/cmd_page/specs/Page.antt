@@ -11,8 +11,8 @@ use Rattle.svc_exit.specs.declared.ending.Ending.{Ending}
 use Rattle.svc_exit.specs.declared.ending.Ending.TheVariants as ending
 use Rattle.svc_exit.specs.declared.exit.Exit.{Exit}
 use Rattle.cmd_svc.specs.Line.{is_running, wants_up}
-use Rattle.cmd_svc.specs.declared.services.Unreached.{Unreached}
-use Rattle.cmd_svc.specs.declared.services.Unreached.TheVariants as unreached
+use Rattle.svc_client.specs.declared.services.Unreached.{Unreached}
+use Rattle.svc_client.specs.declared.services.Unreached.TheVariants as unreached
 use Rattle.cmd_svc.specs.declared.course.Course.{Course}
 use Rattle.cmd_svc.specs.declared.course.Course.TheVariants.{BackingOff, Finishing, Plain, Ready}
 use Rattle.cmd_svc.specs.declared.look.Look.{Look}

@@ -6,14 +6,14 @@ use Rattle.tai_status.specs.Extended.{Extended}
 use Rattle.tai_status.specs.Label.{Tai64n}
 use Rattle.tai_status.specs.Record.{Status}
 use Rattle.cmd_base.specs.Known.{IsKnown}
-use Rattle.cmd_svc.specs.Calls.{Call}
+use Rattle.svc_client.specs.Calls.{Call}
 use Rattle.cmd_svc.specs.Missing.{TellsEach, telling}
-use Rattle.cmd_svc.specs.Sight.{Sight, sight}
+use Rattle.svc_client.specs.Sight.{Sight, sight}
 use Rattle.cmd_svc.specs.Svstat.{Scene, scene, svstat_report}
 use Rattle.cmd_svc.specs.declared.svstat.SvstatFault.TheVariants as why
 use Rattle.cmd_why.specs.Texts.{Knowledge}
 use Rattle.cmd_why.specs.Why.{IsTraceOf}
-use Rattle.cmd_report.specs.Finds.{Files, FindsFront, FindsOne, FindsWords}
+use Rattle.cmd_report.specs.Finds.{FindsFront, FindsWords}
 use Rattle.cmd_report.specs.declared.found.Found.{Found}
 use Rattle.cmd_page.specs.Page.{Row, page_text, row_text, status_of}
 
@@ -38,11 +38,11 @@ pub record AddsRow (known : Knowledge) (now : Tai64n) (found : Found) (before af
   pub text : after ≡ before ++ row_text now row
 
 -- Each word was looked at, in order, and a text grew by the row of each.
-pub record AddsRows (files : Files) (now : Tai64n) (words : List (List ℕ)) (old new : Sight)
+pub record AddsRows (known : Knowledge) (now : Tai64n) (words : List (List ℕ)) (old new : Sight)
     (before after : List ℕ) : Type 0 where
   pub rows : List Row
-  pub finds : FindsWords files words (founds_of rows) old new
-  pub are : AllByRecursion (IsRow files.known) rows
+  pub finds : FindsWords words (founds_of rows) old new
+  pub are : AllByRecursion (IsRow known) rows
   pub text : after ≡ before ++ flat_map (row_text now) rows
 
 -- The clock was read.
@@ -51,61 +51,61 @@ pub record ReadsClock (old new : Sight) (now : Tai64n) : Type 0 where
   pub read : Extended old.readings new.readings (now ∷ [])
 
 -- The clock was read, and then each word was looked at, in order. This is the page about what was found.
-pub record Draws (files : Files) (words : List (List ℕ)) (old new : Sight) (page : List ℕ) : Type 0 where
+pub record Draws (known : Knowledge) (words : List (List ℕ)) (old new : Sight) (page : List ℕ) : Type 0 where
   pub now : Tai64n
   pub middle : Sight
   pub time : List ℕ
   pub rows : List Row
   pub read : ReadsClock old middle now
-  pub time_is : IsKnown (files.known.times now) time
-  pub finds : FindsWords files words (founds_of rows) middle new
-  pub are : AllByRecursion (IsRow files.known) rows
+  pub time_is : IsKnown (known.times now) time
+  pub finds : FindsWords words (founds_of rows) middle new
+  pub are : AllByRecursion (IsRow known) rows
   pub text : page ≡ page_text time now rows
 
 -- There was no memory: the clock was read, and some words at the front were looked at.
-pub record DrawsNone (files : Files) (words : List (List ℕ)) (old new : Sight) : Type 0 where
+pub record DrawsNone (words : List (List ℕ)) (old new : Sight) : Type 0 where
   pub now : Tai64n
   pub middle : Sight
   pub read : ReadsClock old middle now
-  pub finds : FindsFront files words middle new
+  pub finds : FindsFront words middle new
 
 -- The page was written. Then it is reported for each folder that does not exist why, and nothing else is reported.
-pub record WritesPage (files : Files) (words : List (List ℕ)) (status : ℕ) (old new : Scene)
+pub record WritesPage (known : Knowledge) (words : List (List ℕ)) (status : ℕ) (old new : Scene)
     (faults reports : Device) : Type 0 where
   pub page : List ℕ
   pub asked : Option (List Call)
-  pub draws : Draws files words old.sight (sight asked new.sight.readings) page
+  pub draws : Draws known words old.sight (sight asked new.sight.readings) page
   pub wrote : Wrote old.writer new.writer page
   pub works : Works old.writer new.writer
   pub status_is : status ≡ 0
   pub told : TellsEach (codes "svstat: ") words (telling asked faults) (telling new.sight.calls reports)
 
 -- The writer failed after a front of the page.
-pub record WritesFront (files : Files) (words : List (List ℕ)) (status : ℕ) (old new : Scene)
+pub record WritesFront (known : Knowledge) (words : List (List ℕ)) (status : ℕ) (old new : Scene)
     (faults reports : Device) : Type 0 where
   pub page : List ℕ
-  pub draws : Draws files words old.sight new.sight page
+  pub draws : Draws known words old.sight new.sight page
   pub wrote : WroteFront old.writer new.writer page
   pub fails : Fails old.writer new.writer
   pub status_is : status ≡ 111
   pub reported : Reports faults reports (svstat_report why.Write new.writer)
 
 -- There was no memory for the page, and nothing was written.
-pub record WritesNothing (files : Files) (words : List (List ℕ)) (status : ℕ) (old new : Scene)
+pub record WritesNothing (words : List (List ℕ)) (status : ℕ) (old new : Scene)
     (faults reports : Device) : Type 0 where
-  pub draws : DrawsNone files words old.sight new.sight
+  pub draws : DrawsNone words old.sight new.sight
   pub unwritten : new.writer ≡ old.writer
   pub status_is : status ≡ 111
   pub reported : Reports faults reports (svstat_report why.OutOfMemory new.writer)
 
 -- How it ends: the page was written, or a front of it, or nothing.
-abbrev pub Writes : (files : Files) (words : List (List ℕ)) (status : ℕ) (old new : Scene) (faults reports : Device)
+abbrev pub Writes : (known : Knowledge) (words : List (List ℕ)) (status : ℕ) (old new : Scene) (faults reports : Device)
     → Type 0
-Writes files words status old new faults reports =
-    WritesPage files words status old new faults reports
-    ⊎ (WritesFront files words status old new faults reports ⊎ WritesNothing files words status old new faults reports)
+Writes known words status old new faults reports =
+    WritesPage known words status old new faults reports
+    ⊎ (WritesFront known words status old new faults reports ⊎ WritesNothing words status old new faults reports)
 
-abbrev pub PageEnds : (files : Files) (words : List (List ℕ)) (status : ℕ) (sight sees : Sight)
+abbrev pub PageEnds : (known : Knowledge) (words : List (List ℕ)) (status : ℕ) (sight sees : Sight)
     (writer writes faults reports : Device) → Type 0
-PageEnds files words status sight sees writer writes faults reports =
-    Writes files words status (scene sight writer) (scene sees writes) faults reports
+PageEnds known words status sight sees writer writes faults reports =
+    Writes known words status (scene sight writer) (scene sees writes) faults reports

@@ -9,10 +9,11 @@ ghost use Rattle.cmd_why.specs.Sentences.{signal_text};
 
 use crate::picture::{push_picture, push_restarts};
 use crate::text::{push_number, push_text};
-use cmd_svc::{Course, Look, Unreached, is_running};
+use cmd_svc::{Course, Look, is_running};
 use cmd_why::leads_to;
 use std::alloc::{AllocError, Allocator};
 use sup_trace::TraceText;
+use svc_client::Unreached;
 use svc_exit::{Ending, Exit, signal_name};
 use tai_status::{Label, View, Want};
 

@@ -1,22 +1,20 @@
 //! The command `svstat`, in each of its forms.
 ghost use Rattle.cmd_svc.specs.Words.{texts};
-ghost use Rattle.cmd_report.specs.Finds.{report_files};
 ghost use Rattle.cmd_page.specs.Ends.{ViewEnds};
 
 use crate::report::run_page;
-use cmd_report::{CountFiles, run_report};
-use cmd_svc::{Observer, Services};
+use cmd_report::run_report;
 use cmd_why::Evidence;
 use std::alloc::Allocator;
 use std::io::Write;
+use svc_client::{Observer, Services};
 use tai_status::{Output, TimeSource};
 
 /// The command `svstat`. If its first word is `--html`, it works as [`run_page`], over the words after that one.
 /// Otherwise it works as [`run_report`], over all words.
-pub fn run_view<S, F, K, A, W, E, C>(
+pub fn run_view<S, K, A, W, E, C>(
     alloc: A,
     observer: &mut Observer<S, C>,
-    counts: &F,
     sources: &K,
     words: &[&str],
     writer: &mut Output<W>,
@@ -24,19 +22,16 @@ pub fn run_view<S, F, K, A, W, E, C>(
 ) -> u8
 where
     S: Services,
-    F: CountFiles,
     K: Evidence,
     A: Allocator + Clone,
     W: Write,
     E: Write,
     C: TimeSource,
-    ensures ends { ViewEnds (report_files (F.counts_at counts.now) (K.known sources.now)) (texts words.now) result
+    ensures ends { ViewEnds (K.known sources.now) (texts words.now) result
         observer.old observer.new writer.old writer.new faults.old faults.new }
 {
     match words {
-        ["--html", folders @ ..] => {
-            run_page(alloc, observer, counts, sources, folders, writer, faults)
-        }
-        _ => run_report(alloc, observer, counts, sources, words, writer, faults),
+        ["--html", folders @ ..] => { run_page(alloc, observer, sources, folders, writer, faults) }
+        _ => run_report(alloc, observer, words, writer, faults),
     }
 }

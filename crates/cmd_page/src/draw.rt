@@ -1,16 +1,16 @@
 //! What is found about services, as a page.
 ghost use Rattle.std.specs.Prelude.{◌≡◌, IfOk, OnErr, OnOk};
 ghost use Rattle.cmd_svc.specs.Words.{texts};
-ghost use Rattle.cmd_report.specs.Finds.{report_files, FindsFront};
+ghost use Rattle.cmd_report.specs.Finds.{FindsFront};
 ghost use Rattle.cmd_page.specs.Page.{status_of};
 ghost use Rattle.cmd_page.specs.PageEnds.{AddsRow, AddsRows, Draws, DrawsNone, IsSince, ReadsClock};
 
 use crate::cells::status_of;
 use crate::page::{push_end, push_head, push_row};
-use cmd_report::{CountFiles, Found, find_one};
-use cmd_svc::{Observer, Services};
+use cmd_report::{Found, find_one};
 use cmd_why::{Evidence, LocalTime, read_content};
 use std::alloc::{AllocError, Allocator};
+use svc_client::{Observer, Services};
 use tai_status::{Label, TimeSource, View};
 
 /// Reads the clock.
@@ -46,61 +46,51 @@ fn add_row<K: Evidence, A: Allocator + Clone>(
 }
 
 /// Looks at the services in folders, one after the other, and adds their rows to a page.
-fn add_rows<S, F, K, A, C>(
+fn add_rows<S, K, A, C>(
     alloc: &A,
     page: &mut Vec<u8, A>,
     observer: &mut Observer<S, C>,
-    counts: &F,
     sources: &K,
     now: &Label,
     folders: &[&str],
 ) -> Result<(), AllocError>
 where
     S: Services,
-    F: CountFiles,
     K: Evidence,
     A: Allocator + Clone,
     C: TimeSource,
-    ensures ok { OnOk result
-        (AddsRows (report_files (F.counts_at counts.now) (K.known sources.now)) now.now (texts folders.now)
+    ensures ok { OnOk result (AddsRows (K.known sources.now) now.now (texts folders.now)
         observer.old observer.new page.old.items page.new.items) }
-    ensures err { OnErr result
-        (FindsFront (report_files (F.counts_at counts.now) (K.known sources.now)) (texts folders.now)
-        observer.old observer.new) }
+    ensures err { OnErr result (FindsFront (texts folders.now) observer.old observer.new) }
 {
     for folder in folders {
-        let found = find_one(observer, counts, sources, folder);
+        let found = find_one(observer, folder);
         add_row(alloc, page, sources, now, &found)?;
     }
     Ok(())
 }
 
 /// Returns the page about the services in folders: reads the clock, and then looks at them, one after the other.
-pub(crate) fn draw<S, F, K, A, C>(
+pub(crate) fn draw<S, K, A, C>(
     alloc: &A,
     observer: &mut Observer<S, C>,
-    counts: &F,
     sources: &K,
     folders: &[&str],
 ) -> Result<Vec<u8, A>, AllocError>
 where
     S: Services,
-    F: CountFiles,
     K: Evidence,
     A: Allocator + Clone,
     C: TimeSource,
     ensures ok { IfOk result (λ page.
-        Draws (report_files (F.counts_at counts.now) (K.known sources.now)) (texts folders.now)
-        observer.old observer.new page.items) }
-    ensures err { OnErr result
-        (DrawsNone (report_files (F.counts_at counts.now) (K.known sources.now)) (texts folders.now)
-        observer.old observer.new) }
+        Draws (K.known sources.now) (texts folders.now) observer.old observer.new page.items) }
+    ensures err { OnErr result (DrawsNone (texts folders.now) observer.old observer.new) }
 {
     let now = read_clock(observer);
     let time = sources.local_time(&now);
     let mut page = Vec::new(alloc.clone()?);
     push_head(alloc, &mut page, time.as_str())?;
-    add_rows(alloc, &mut page, observer, counts, sources, &now, folders)?;
+    add_rows(alloc, &mut page, observer, sources, &now, folders)?;
     push_end(&mut page)?;
     Ok(page)
 }

@@ -1,25 +1,23 @@
 //! The command `svstat --html`.
 ghost use Rattle.cmd_svc.specs.Words.{texts};
-ghost use Rattle.cmd_report.specs.Finds.{report_files};
 ghost use Rattle.cmd_page.specs.PageEnds.{PageEnds};
 
 use crate::draw::draw;
 use cmd_base::DONE;
-use cmd_report::CountFiles;
-use cmd_svc::{Observer, Services, SvstatFault, report_svstat, tell_missing};
+use cmd_svc::{SvstatFault, report_svstat, tell_missing};
 use cmd_why::Evidence;
 use std::alloc::Allocator;
 use std::io::Write;
+use svc_client::{Observer, Services};
 use tai_status::{Output, TimeSource};
 
 /// The command `svstat --html`: reads the clock, looks at the service in each folder that its words name, in order, and
 /// then writes the page about what was found. Then it reports for each folder that does not exist why.
 ///
 /// Returns the exit status: 0; 111 for a lack of memory, and then nothing was written; 111 for a fault of the writer.
-pub fn run_page<S, F, K, A, W, E, C>(
+pub fn run_page<S, K, A, W, E, C>(
     alloc: A,
     observer: &mut Observer<S, C>,
-    counts: &F,
     sources: &K,
     words: &[&str],
     writer: &mut Output<W>,
@@ -27,16 +25,15 @@ pub fn run_page<S, F, K, A, W, E, C>(
 ) -> u8
 where
     S: Services,
-    F: CountFiles,
     K: Evidence,
     A: Allocator + Clone,
     W: Write,
     E: Write,
     C: TimeSource,
-    ensures ends { PageEnds (report_files (F.counts_at counts.now) (K.known sources.now)) (texts words.now) result
+    ensures ends { PageEnds (K.known sources.now) (texts words.now) result
         observer.old observer.new writer.old writer.new faults.old faults.new }
 {
-    let Ok(page) = draw(&alloc, observer, counts, sources, words) else {
+    let Ok(page) = draw(&alloc, observer, sources, words) else {
         return report_svstat(SvstatFault::OutOfMemory, writer, faults);
     };
     match writer.write_all(&page) {

@@ -1,69 +1,65 @@
 -- What is found about services: a look at each, its counts, and its last end.
 use Rattle.std.specs.Prelude.{◌≡◌, ℕ, List, [], ◌∷◌, ◌++◌, map, Option, Some, None}
-use Rattle.cmd_base.specs.Known.{IsKnown}
-use Rattle.cmd_svc.specs.Sight.{Sight}
+use Rattle.tai_status.specs.Extended.{Extended}
+use Rattle.svc_client.specs.Calls.{Call, ReadNotice}
+use Rattle.svc_client.specs.Sight.{Sight, sight}
 use Rattle.cmd_svc.specs.Svstat.{Finds}
 use Rattle.cmd_svc.specs.declared.look.Look.{Look}
 use Rattle.cmd_svc.specs.declared.look.Look.TheVariants as look
-use Rattle.cmd_why.specs.Texts.{Knowledge}
-use Rattle.cmd_why.specs.Why.{IsExitOf}
+use Rattle.svc_client.specs.declared.notice.Notice.TheVariants as notice
+use Rattle.cmd_why.specs.Why.{ReadsExit}
+use Rattle.svc_exit.specs.declared.counts.Counts.{Counts}
 use Rattle.svc_exit.specs.declared.exit.Exit.{Exit}
 use Rattle.cmd_report.specs.Counts.{counts_in}
-use Rattle.cmd_report.specs.declared.counts.Counts.{Counts}
 use Rattle.cmd_report.specs.declared.found.Found.{Found}
 
--- What the files `counts` hold, if that is known: the bytes for the service in a folder, or that they can't be read
-abbrev pub CountFiles : Type 0
-CountFiles = List ℕ → Option (Option (List ℕ))
-
--- What is known of the files of services: what the files `counts` hold, and what `why` reads.
-pub record Files : Type 0 where
-  pub counts : CountFiles
-  pub known : Knowledge
-
-abbrev pub report_files : (counts : CountFiles) (known : Knowledge) → Files
-report_files counts known = record { counts = counts; known = known }
-
--- the counts that a file has, if there is one
-abbrev pub counts_of : Option (List ℕ) → Option Counts
+-- the counts in the text of a file, if it could be read
+abbrev pub counts_of : (text : Option (List ℕ)) → Option Counts
 counts_of None = None
-counts_of (Some bytes) = counts_in bytes
+counts_of (Some text) = counts_in text
 
--- Counts are read if the status was read, and only then.
-abbrev pub AreCounts : (known : Option (Option (List ℕ))) → Look → Option Counts → Type 0
-AreCounts known (look.Standing loaded normally_up now course) counts =
-    (read : Option (List ℕ)) × (IsKnown known read × (counts ≡ counts_of read))
-AreCounts known other counts = counts ≡ None
+-- The file `counts` of the service in a folder was read, and says this.
+pub record ReadsCounts (folder : List ℕ) (counts : Option Counts) (past now : Option (List Call)) : Type 0 where
+  pub text : Option (List ℕ)
+  pub says : counts ≡ counts_of text
+  pub asked : Extended past now (ReadNotice folder notice.Counts text ∷ [])
 
--- The last end is read if the status was read, and only then.
-abbrev pub IsLast : (known : Option (List ℕ)) → Look → Option Exit → Type 0
-IsLast known (look.Standing loaded normally_up now course) last = IsExitOf known last
-IsLast known other last = last ≡ None
+-- The counts were read, and then the last end.
+pub record ReadsPast (folder : List ℕ) (counts : Option Counts) (last : Option Exit) (past now : Option (List Call))
+    : Type 0 where
+  pub middle : Option (List Call)
+  pub counts_read : ReadsCounts folder counts past middle
+  pub last_read : ReadsExit folder last middle now
+
+-- They are read if the status was read, and only then.
+abbrev pub SeeksPast : Look → (folder : List ℕ) (counts : Option Counts) (last : Option Exit)
+    (past now : Option (List Call)) → Type 0
+SeeksPast (look.Standing loaded normally_up at course) folder counts last past now =
+    ReadsPast folder counts last past now
+SeeksPast other folder counts last past now = (counts ≡ None) × (last ≡ None) × (now ≡ past)
 
 -- The service in a folder was looked at, and this was found.
-pub record FindsOne (files : Files) (found : Found) (old new : Sight) : Type 0 where
-  pub finds : Finds found.folder.now found.look old new
-  pub counts : AreCounts (files.counts found.folder.now) found.look found.counts
-  pub last : IsLast (files.known.exits found.folder.now) found.look found.last
+pub record FindsOne (found : Found) (old new : Sight) : Type 0 where
+  pub asked : Option (List Call)
+  pub finds : Finds found.folder.now found.look old (sight asked new.readings)
+  pub seeks : SeeksPast found.look found.folder.now found.counts found.last asked new.calls
 
 -- These were found, one after the other.
-abbrev pub FindsAll : (files : Files) → List Found → (old new : Sight) → Type 0
-FindsAll files [] old new = new ≡ old
-FindsAll files (found ∷ founds) old new =
-    (middle : Sight) × (FindsOne files found old middle × FindsAll files founds middle new)
+abbrev pub FindsAll : List Found → (old new : Sight) → Type 0
+FindsAll [] old new = new ≡ old
+FindsAll (found ∷ founds) old new = (middle : Sight) × (FindsOne found old middle × FindsAll founds middle new)
 
 abbrev pub folders_of : List Found → List (List ℕ)
 folders_of founds = map (λ found. found.folder.now) founds
 
 -- Each word was looked at, in order, and this was found.
-pub record FindsWords (files : Files) (words : List (List ℕ)) (founds : List Found) (old new : Sight)
-    : Type 0 where
+pub record FindsWords (words : List (List ℕ)) (founds : List Found) (old new : Sight) : Type 0 where
   pub words_are : words ≡ folders_of founds
-  pub finds : FindsAll files founds old new
+  pub finds : FindsAll founds old new
 
 -- There was no memory: some words at the front were looked at.
-pub record FindsFront (files : Files) (words : List (List ℕ)) (old new : Sight) : Type 0 where
+pub record FindsFront (words : List (List ℕ)) (old new : Sight) : Type 0 where
   pub founds : List Found
   pub rest : List (List ℕ)
   pub words_are : words ≡ folders_of founds ++ rest
-  pub finds : FindsAll files founds old new
+  pub finds : FindsAll founds old new

@@ -1,7 +1,7 @@
 -- What is true for the definitions alone.
 use Rattle.std.specs.Prelude.{◌≡◌, ℕ, List, ◌++◌, codes}
 use Rattle.cmd_svc.specs.Svstat.{look_line, fault_name}
-use Rattle.cmd_svc.specs.declared.services.Unreached.{Unreached}
+use Rattle.svc_client.specs.declared.services.Unreached.{Unreached}
 use Rattle.cmd_svc.specs.declared.look.Look.TheVariants as look
 use Rattle.tai_status.specs.declared.record.RecordFault.{RecordFault}
 use Rattle.cmd_report.specs.Json.{unreached_text}

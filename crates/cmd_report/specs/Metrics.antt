@@ -19,7 +19,7 @@ use Rattle.cmd_svc.specs.declared.look.Look.TheVariants as look
 use Rattle.svc_exit.specs.declared.ending.Ending.{Ending}
 use Rattle.svc_exit.specs.declared.ending.Ending.TheVariants.{Status, Signal}
 use Rattle.svc_exit.specs.declared.exit.Exit.{Exit}
-use Rattle.cmd_report.specs.declared.counts.Counts.{Counts}
+use Rattle.svc_exit.specs.declared.counts.Counts.{Counts}
 use Rattle.cmd_report.specs.declared.found.Found.{Found}
 use Rattle.cmd_report.specs.declared.samples.Sample.{Sample}
 use Rattle.cmd_report.specs.declared.samples.Sample.TheVariants as sample

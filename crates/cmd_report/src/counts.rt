@@ -3,12 +3,7 @@ ghost use Rattle.std.specs.Prelude.{◌≡◌, ◌==◌, ◌<◌, ◌-◌, ◌+�
 ghost use Rattle.std.specs.List.{list_all};
 ghost use Rattle.cmd_report.specs.Counts.{both, counts_in, is_digit, is_numeral, line_counts, number_of, value_of};
 
-/// How often a service was started, and how often it died, since svscan began.
-#[derive(Clone, Copy, Debug, PartialEq, Eq)]
-pub struct Counts {
-    pub starts: u64,
-    pub deaths: u64,
-}
+use svc_exit::Counts;
 
 /// Returns what the bytes of a file `counts` say: one line `STARTS DEATHS`, two decimal numbers below 2^64 without
 /// leading zeros. Returns None for anything else.

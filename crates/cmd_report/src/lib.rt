@@ -12,11 +12,9 @@ mod metrics;
 mod objects;
 mod report;
 mod samples;
-mod sources;
-mod system;
 
 pub use command::run_report;
-pub use counts::{Counts, counts_in};
+pub use counts::counts_in;
 pub use find::find_one;
 pub use found::Found;
 pub use laws::{labels_read, same_words};
@@ -25,4 +23,3 @@ pub use metrics::metrics_text;
 pub use objects::json_line;
 pub use report::run_metrics;
 pub use samples::{Sample, value_in};
-pub use sources::{CountFiles, CountsFront};

@@ -2,21 +2,19 @@
 ghost use Rattle.std.specs.Prelude.{◌≡◌, ◌∷◌, [], ◌++◌, OnOk, IfOk, IfErr};
 ghost use Rattle.tai_status.specs.Counted.{Wrote, Works};
 ghost use Rattle.cmd_svc.specs.Words.{texts};
-ghost use Rattle.cmd_svc.specs.Turns.{InTurn};
+ghost use Rattle.svc_client.specs.Turns.{InTurn};
 ghost use Rattle.cmd_svc.specs.Svstat.{scene, WritesNot};
-ghost use Rattle.cmd_report.specs.Finds.{report_files};
 ghost use Rattle.cmd_report.specs.Json.{json_line};
 ghost use Rattle.cmd_report.specs.JsonEnds.{JsonEnds, Shows, ShowsNot, ShowsUpTo};
 
 use crate::find::find_one;
 use crate::found::Found;
 use crate::objects::json_line;
-use crate::sources::CountFiles;
 use cmd_base::DONE;
-use cmd_svc::{Observer, Services, SvstatFault, report_svstat, tell_missing};
-use cmd_why::Evidence;
+use cmd_svc::{SvstatFault, report_svstat, tell_missing};
 use std::alloc::{AllocError, Allocator};
 use std::io::Write;
+use svc_client::{Observer, Services};
 use tai_status::{Output, TimeSource};
 
 /// Returns the line about what was found about a service, with its newline.
@@ -49,56 +47,45 @@ fn write_line<A: Allocator + Clone, W: Write>(
 }
 
 /// Looks at the service in a folder, and writes the line about what was found.
-fn show<S, F, K, A, W, C>(
+fn show<S, A, W, C>(
     alloc: &A,
     observer: &mut Observer<S, C>,
-    counts: &F,
-    sources: &K,
     folder: &str,
     writer: &mut Output<W>,
 ) -> Result<(), SvstatFault>
 where
     S: Services,
-    F: CountFiles,
-    K: Evidence,
     A: Allocator + Clone,
     W: Write,
     C: TimeSource,
-    ensures ok { OnOk result (Shows (report_files (F.counts_at counts.now) (K.known sources.now)) folder.now
-        (scene observer.old writer.old) (scene observer.new writer.new)) }
+    ensures ok { OnOk result
+        (Shows folder.now (scene observer.old writer.old) (scene observer.new writer.new)) }
     ensures err { IfErr result (λ cause.
-        ShowsNot (report_files (F.counts_at counts.now) (K.known sources.now)) folder.now cause
-        (scene observer.old writer.old) (scene observer.new writer.new)) }
+        ShowsNot folder.now cause (scene observer.old writer.old) (scene observer.new writer.new)) }
 {
-    let found = find_one(observer, counts, sources, folder);
+    let found = find_one(observer, folder);
     write_line(alloc, &found, writer)
 }
 
 /// Shows the services in folders, one after the other, up to the first one whose line can't be written.
-fn show_all<S, F, K, A, W, C>(
+fn show_all<S, A, W, C>(
     alloc: &A,
     observer: &mut Observer<S, C>,
-    counts: &F,
-    sources: &K,
     folders: &[&str],
     writer: &mut Output<W>,
 ) -> Result<(), SvstatFault>
 where
     S: Services,
-    F: CountFiles,
-    K: Evidence,
     A: Allocator + Clone,
     W: Write,
     C: TimeSource,
     ensures ok { OnOk result
-        (InTurn (Shows (report_files (F.counts_at counts.now) (K.known sources.now))) (texts folders.now)
-        (scene observer.old writer.old) (scene observer.new writer.new)) }
+        (InTurn Shows (texts folders.now) (scene observer.old writer.old) (scene observer.new writer.new)) }
     ensures err { IfErr result
-        (ShowsUpTo (report_files (F.counts_at counts.now) (K.known sources.now)) (texts folders.now)
-        (scene observer.old writer.old) (scene observer.new writer.new)) }
+        (ShowsUpTo (texts folders.now) (scene observer.old writer.old) (scene observer.new writer.new)) }
 {
     for folder in folders {
-        show(alloc, observer, counts, sources, folder, writer)?;
+        show(alloc, observer, folder, writer)?;
     }
     Ok(())
 }
@@ -109,27 +96,23 @@ where
 ///
 /// Returns the exit status: 0, whatever the lines say; 111 for a fault of the writer and for a lack of memory, and then
 /// the services after that one are not looked at.
-pub fn run_json<S, F, K, A, W, E, C>(
+pub fn run_json<S, A, W, E, C>(
     alloc: A,
     observer: &mut Observer<S, C>,
-    counts: &F,
-    sources: &K,
     words: &[&str],
     writer: &mut Output<W>,
     faults: &mut Output<E>,
 ) -> u8
 where
     S: Services,
-    F: CountFiles,
-    K: Evidence,
     A: Allocator + Clone,
     W: Write,
     E: Write,
     C: TimeSource,
-    ensures ends { JsonEnds (report_files (F.counts_at counts.now) (K.known sources.now)) (texts words.now) result
+    ensures ends { JsonEnds (texts words.now) result
         observer.old observer.new writer.old writer.new faults.old faults.new }
 {
-    match show_all(&alloc, observer, counts, sources, words, writer) {
+    match show_all(&alloc, observer, words, writer) {
         Ok(()) => {
             tell_missing(&mut observer.services, b"svstat: ", words, faults);
             DONE

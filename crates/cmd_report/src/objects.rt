@@ -1,22 +1,21 @@
 //! What was found about a service as a JSON object.
 ghost use Rattle.std.specs.Prelude.{◌≡◌, ◌++◌, codes, IfOk, OnOk};
 ghost use Rattle.json.specs.Lex.{tokens};
-ghost use Rattle.cmd_svc.specs.Line.{is_running};
 ghost use Rattle.cmd_svc.specs.Svstat.{fault_name};
 ghost use Rattle.cmd_report.specs.Json.{Adds, asked_members, course_members, boolean_member, ended_members, exiting_member, found_tokens};
 ghost use Rattle.cmd_report.specs.Json.{json_line, known_member, last_member, look_members, null_member, number_member};
 ghost use Rattle.cmd_report.specs.Json.{past_members, phase_member, pid_member, process_members, side_name};
 ghost use Rattle.cmd_report.specs.Json.{standing_members, string_member, unreached_text, unreached_members, want_name};
 
-use crate::counts::Counts;
 use crate::found::Found;
 use crate::samples::{
     backoff_in, deaths_in, is_finishing, ready_in, signal_of, starts_in, status_of, unix_second,
 };
-use cmd_svc::{Course, Look, Unreached};
+use cmd_svc::{Course, Look, is_running};
 use json::Writer;
 use std::alloc::{AllocError, Allocator};
-use svc_exit::Exit;
+use svc_client::Unreached;
+use svc_exit::{Counts, Exit};
 use tai_status::{Label, Loaded, RecordFault, View, Want, phase_name};
 
 /// Returns what was found about a service as one JSON object (RFC 8259), without a newline. If its status was read, the
@@ -251,13 +250,6 @@ fn add_standing<A: Allocator>(
     add_phase(writer, loaded)?;
     add_asked(writer, &view, normally_up)?;
     add_exiting(writer, loaded)
-}
-
-/// Returns whether a service runs.
-fn is_running(view: &View) -> bool
-    ensures { result ≡ is_running view.now }
-{
-    view.pid >= 1
 }
 
 /// Writes whether a service runs, with which process, and how long it has been in that state.

@@ -1,16 +1,15 @@
 //! The samples of metrics, and the value that a service has of each.
 ghost use Rattle.std.specs.Prelude.{◌≡◌};
 ghost use Rattle.tai_status.specs.Record.{flag_byte};
-ghost use Rattle.cmd_svc.specs.Line.{is_running, wants_up};
+ghost use Rattle.cmd_svc.specs.Line.{wants_up};
 ghost use Rattle.cmd_report.specs.Metrics.{deaths_in, head_text, is_supervised, look_value, metric_name, phase_value};
 ghost use Rattle.cmd_report.specs.Metrics.{signal_of, signal_of_last, standing_value, starts_in, status_of};
 ghost use Rattle.cmd_report.specs.Metrics.{backoff_in, is_finishing, ready_in, status_of_last, unix_second, value_in};
 
-use crate::counts::Counts;
 use crate::found::Found;
-use cmd_svc::{Course, Look};
-use svc_exit::{Ending, Exit};
-use tai_status::{Label, Loaded, Phase, View, Want, phase_name};
+use cmd_svc::{Course, Look, is_running};
+use svc_exit::{Counts, Ending, Exit};
+use tai_status::{Label, Loaded, Phase, Want, phase_name};
 
 /// A sample that a service has of a metric.
 #[derive(Clone, Copy, Debug, PartialEq, Eq)]
@@ -213,13 +212,6 @@ fn standing_value(sample: Sample, loaded: &Loaded, now: &Label) -> Option<u64>
         Sample::Ready | Sample::Finishing | Sample::BackingOff => None,
         Sample::LastStatus | Sample::LastSignal => None,
     }
-}
-
-/// Returns whether a service runs.
-fn is_running(view: &View) -> bool
-    ensures { result ≡ is_running view.now }
-{
-    view.pid >= 1
 }
 
 /// Returns whether a service is to be up.

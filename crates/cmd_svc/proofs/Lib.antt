@@ -1,5 +1,4 @@
 pub mod Earlier
 pub mod Room
 pub mod Walk
-pub mod Turns
 pub mod Refusals

@@ -1,16 +1,16 @@
 -- What a service does that its status does not say, and how that is found.
 use Rattle.std.specs.Prelude.{◌≡◌, ℕ, ◌==◌, ◌-◌, ◌&&◌, Bool, true, false, not, is_some, if◌then◌else◌, List, [], ◌∷◌, ◌++◌}
-use Rattle.std.specs.Prelude.{codes, decimal, MatchBool, Option, Some, None}
+use Rattle.std.specs.Prelude.{codes, decimal, Option, Some, None}
 use Rattle.tai_status.specs.Extended.{Extended}
 use Rattle.tai_status.specs.Label.{Tai64n, is_earlier}
 use Rattle.tai_status.specs.Record.{Status}
 use Rattle.svc_exit.specs.Moments.{IsMomentIn}
 use Rattle.svc_exit.specs.declared.moment.Moment.{Moment}
-use Rattle.cmd_svc.specs.Calls.{Call, ReadNotice, SoughtFinish}
+use Rattle.svc_client.specs.Calls.{Call, ReadNotice, SoughtFinish}
 use Rattle.cmd_svc.specs.declared.course.Course.{Course}
 use Rattle.cmd_svc.specs.declared.course.Course.TheVariants.{BackingOff, Finishing, Plain, Ready}
-use Rattle.cmd_svc.specs.declared.course.Notice.{Notice}
-use Rattle.cmd_svc.specs.declared.course.Notice.TheVariants as notice
+use Rattle.svc_client.specs.declared.notice.Notice.{Notice}
+use Rattle.svc_client.specs.declared.notice.Notice.TheVariants as notice
 
 -- A notice is about the process of a record if it has its number, and is not earlier than its start.
 abbrev pub is_about : Status → Moment → Bool

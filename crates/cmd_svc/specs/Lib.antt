@@ -1,14 +1,8 @@
 pub mod Words
 pub mod Line
 pub mod Listed
-pub mod Paths
-pub mod Calls
-pub mod Process
 pub mod Shown
 pub mod Missing
-pub mod Sight
-pub mod Connecting
-pub mod Turns
 pub mod Svc
 pub mod Svstat
 pub mod Svok

@@ -4,8 +4,8 @@ use Rattle.tai_status.specs.Counted.{Device, Reports}
 use Rattle.tai_status.specs.Extended.{Extended}
 use Rattle.tai_status.specs.Causes.{cause_note}
 use Rattle.tai_status.specs.declared.cause.Cause.{Cause}
-use Rattle.cmd_svc.specs.Calls.{Call, SoughtFolder}
-use Rattle.cmd_svc.specs.Turns.{InTurn}
+use Rattle.svc_client.specs.Calls.{Call, SoughtFolder}
+use Rattle.svc_client.specs.Turns.{InTurn}
 
 -- What is asked of services, and the device for reports of faults.
 pub record Telling : Type 0 where

@@ -5,13 +5,13 @@ use Rattle.std.specs.Prelude.{bytes_eq, Option, Some, None, is_some, MatchOption
 use Rattle.hex.specs.Hex.{encode_lower}
 use Rattle.tai_status.specs.Counted.{Device, Reports}
 use Rattle.cmd_svc.specs.Words.{order_bytes, service_words, unknown_in}
-use Rattle.cmd_svc.specs.Calls.{Call, Sent}
+use Rattle.svc_client.specs.Calls.{Call, Sent}
 use Rattle.tai_status.specs.Extended.{Extended}
 use Rattle.cmd_svc.specs.declared.order.SvcFault.{SvcFault}
 use Rattle.cmd_svc.specs.declared.order.SvcFault.TheVariants as cause
-use Rattle.cmd_svc.specs.declared.services.Unreached.{Unreached}
-use Rattle.cmd_svc.specs.declared.services.Unreached.TheVariants as unreached
-use Rattle.cmd_svc.specs.Turns.{InTurn}
+use Rattle.svc_client.specs.declared.services.Unreached.{Unreached}
+use Rattle.svc_client.specs.declared.services.Unreached.TheVariants as unreached
+use Rattle.svc_client.specs.Turns.{InTurn}
 use Rattle.cmd_svc.specs.Missing.{TellsEach, telling}
 
 -- What `svc` works with: the calls that were made, and the device on which it reports faults.

@@ -1,8 +1,8 @@
 -- How `svok` ends (cr.yp.to/daemontools/svok.html).
 use Rattle.std.specs.Prelude.{◌≡◌, ℕ, List, [], ◌∷◌, Option, Some, None}
-use Rattle.cmd_svc.specs.Calls.{Call, Reached}
+use Rattle.svc_client.specs.Calls.{Call, Reached}
 use Rattle.tai_status.specs.Extended.{Extended}
-use Rattle.cmd_svc.specs.declared.services.Unreached.{Unreached}
+use Rattle.svc_client.specs.declared.services.Unreached.{Unreached}
 
 -- the status for the answer
 abbrev pub whether : (fault : Option Unreached) → ℕ

@@ -8,15 +8,15 @@ use Rattle.tai_status.specs.declared.loading.Loaded.{Loaded}
 use Rattle.tai_status.specs.declared.record.RecordFault.{RecordFault}
 use Rattle.tai_status.specs.declared.record.RecordFault.TheVariants as fault
 use Rattle.cmd_svc.specs.Line.{is_running, status_line}
-use Rattle.cmd_svc.specs.Calls.{Call, Reached, ReadStatus, SoughtDown}
+use Rattle.svc_client.specs.Calls.{Call, Reached, ReadStatus, SoughtDown}
 use Rattle.cmd_svc.specs.Course.{SeeksCourse}
-use Rattle.cmd_svc.specs.Sight.{Sight, sight}
+use Rattle.svc_client.specs.Sight.{Sight, sight}
 use Rattle.tai_status.specs.Extended.{Extended}
-use Rattle.cmd_svc.specs.Turns.{InTurn}
+use Rattle.svc_client.specs.Turns.{InTurn}
 use Rattle.cmd_svc.specs.Shown.{shown}
 use Rattle.cmd_svc.specs.Missing.{TellsEach, telling}
-use Rattle.cmd_svc.specs.declared.services.Unreached.{Unreached}
-use Rattle.cmd_svc.specs.declared.services.Unreached.TheVariants as unreached
+use Rattle.svc_client.specs.declared.services.Unreached.{Unreached}
+use Rattle.svc_client.specs.declared.services.Unreached.TheVariants as unreached
 use Rattle.cmd_svc.specs.declared.course.Course.{Course}
 use Rattle.cmd_svc.specs.declared.look.Look.{Look}
 use Rattle.cmd_svc.specs.declared.look.Look.TheVariants as look

@@ -6,28 +6,10 @@ ghost use Rattle.cmd_svc.specs.Course.{SeeksFinish, about, course_note, ended_co
 ghost use Rattle.cmd_svc.specs.Line.{is_running};
 
 use crate::line::{is_running, push_number};
-use crate::services::Services;
-use arrayvec::ArrayVec;
 use std::alloc::{AllocError, Allocator};
+use svc_client::{Notice, Services};
 use svc_exit::{Moment, moment_in};
 use tai_status::{Label, Loaded, View};
-
-/// The number of bytes read of a notice: more than the longest one has.
-pub const NOTICE_BYTES: usize = 64;
-
-/// The text of a notice.
-pub type NoticeText = ArrayVec<u8, NOTICE_BYTES>;
-
-/// A small file in which svscan writes about a service's process.
-#[derive(Clone, Copy, Debug, PartialEq, Eq)]
-pub enum Notice {
-    /// How the last process ended.
-    Exit,
-    /// When the process said that it is ready.
-    Ready,
-    /// Until when the next start waits.
-    Backoff,
-}
 
 /// What a service does that its status does not say.
 #[derive(Clone, Copy, Debug, PartialEq, Eq)]
@@ -159,7 +141,7 @@ fn push_seconds<A: Allocator>(
         ≡ string_bytes out.old ++ words.now ++ decimal seconds ++ codes " seconds") }
 {
     out.push_str(words)?;
-    push_number(out, seconds)?;
+    push_number(out, u128::from(seconds))?;
     out.push_str(" seconds")
 }
 

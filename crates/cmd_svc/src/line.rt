@@ -41,7 +41,7 @@ pub fn stat_line<A: Allocator>(
     line.push_str(": ")?;
     push_state(&mut line, &view)?;
     line.push_str(" ")?;
-    push_number(&mut line, seconds)?;
+    push_number(&mut line, u128::from(seconds))?;
     line.push_str(" seconds")?;
     line.push_str(normal_note(&view, normally_up))?;
     line.push_str(paused_note(&view))?;
@@ -60,7 +60,7 @@ pub fn is_running(view: &View) -> bool
 }
 
 /// Writes a number at the end of a text.
-pub(crate) fn push_number<A: Allocator>(out: &mut String<A>, number: u64) -> Result<(), AllocError>
+pub fn push_number<A: Allocator>(out: &mut String<A>, number: u128) -> Result<(), AllocError>
     ensures { OnOk result (string_bytes out.new ≡ string_bytes out.old ++ decimal number) }
 {
     let mut buffer = Buffer::new();
@@ -75,7 +75,7 @@ fn push_state<A: Allocator>(out: &mut String<A>, view: &View) -> Result<(), Allo
         return out.push_str("down");
     }
     out.push_str("up (pid ")?;
-    push_number(out, u64::from(view.pid))?;
+    push_number(out, u128::from(view.pid))?;
     out.push_str(")")
 }
 

@@ -1,12 +1,12 @@
 //! A look at a service.
 ghost use Rattle.std.specs.Prelude.{◌≡◌, ◌++◌, string_bytes, IfOk};
-ghost use Rattle.cmd_svc.specs.Sight.{sight};
+ghost use Rattle.svc_client.specs.Sight.{sight};
 ghost use Rattle.cmd_svc.specs.Svstat.{Finds, fault_name, look_line, unreached_note};
 
 use crate::course::{Course, ask_course};
 use crate::line::stat_line;
-use crate::services::{Services, Unreached};
 use std::alloc::{AllocError, Allocator};
+use svc_client::{Services, Unreached};
 use tai_status::{Label, Loaded, RecordFault, TimeSource, decode_front};
 
 /// What a look at a service found.

@@ -2,9 +2,9 @@
 ghost use Rattle.cmd_svc.specs.Missing.{TellsEach, TellsMissing, telling};
 ghost use Rattle.cmd_svc.specs.Words.{texts};
 
-use crate::services::Services;
 use cmd_base::{DONE, cause_note, report_parts};
 use std::io::Write;
+use svc_client::Services;
 use tai_status::Output;
 
 /// Reports why there is no folder at a path, if there is none. The name of the command includes its `: `.

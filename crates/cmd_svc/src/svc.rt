@@ -2,17 +2,17 @@
 ghost use Rattle.std.specs.Prelude.{◌≡◌, codes, false, if◌then◌else◌};
 ghost use Rattle.cmd_svc.specs.Words.{service_words, texts};
 ghost use Rattle.tai_status.specs.Counted.{Reports};
-ghost use Rattle.cmd_svc.specs.Turns.{InTurn};
+ghost use Rattle.svc_client.specs.Turns.{InTurn};
 ghost use Rattle.cmd_svc.specs.Svc.{effects, letter_report, missed_status, order_words, reason, sending};
 ghost use Rattle.cmd_svc.specs.Svc.{OrderEnds, Serves, SvcEnds, svc_warning};
 
 use crate::missing::tell_missing;
 use crate::order::SvcFault;
-use crate::services::{Services, Unreached};
 use crate::words::{assemble, services_of};
 use cmd_base::{DONE, REFUSED, TROUBLE, report, report_parts};
 use std::alloc::Allocator;
 use std::io::Write;
+use svc_client::{Services, Unreached};
 use tai_status::{Name, Output};
 
 /// The warning about a service that can't be reached, up to its folder.

@@ -2,8 +2,8 @@
 ghost use Rattle.cmd_svc.specs.Words.{texts};
 ghost use Rattle.cmd_svc.specs.Svok.{SvokEnds};
 
-use crate::services::Services;
 use cmd_base::{DONE, REFUSED};
+use svc_client::Services;
 
 /// The command `svok`: its exit status says whether the service in the folder that its one word names is supervised
 /// (<https://cr.yp.to/daemontools/svok.html>): 0 if it is, and otherwise 100. It prints nothing and needs no memory. No

@@ -2,18 +2,17 @@
 ghost use Rattle.std.specs.Prelude.{◌≡◌, ◌∷◌, [], ◌++◌, OnOk, IfOk, IfErr};
 ghost use Rattle.tai_status.specs.Counted.{Reports, Wrote, Works};
 ghost use Rattle.cmd_svc.specs.Words.{texts};
-ghost use Rattle.cmd_svc.specs.Turns.{InTurn};
+ghost use Rattle.svc_client.specs.Turns.{InTurn};
 ghost use Rattle.cmd_svc.specs.Svstat.{scene, shown_line, Shows, ShowsNot, ShowsUpTo};
 ghost use Rattle.cmd_svc.specs.Svstat.{SvstatEnds, WritesNot, svstat_report};
 
 use crate::form::{LineForm, PlainLine};
 use crate::look::{Look, look_at};
 use crate::missing::tell_missing;
-use crate::observer::Observer;
-use crate::services::Services;
 use cmd_base::{DONE, TROUBLE, report, report_device};
 use std::alloc::{AllocError, Allocator};
 use std::io::Write;
+use svc_client::{Observer, Services};
 use tai_status::{Output, TimeSource};
 
 /// Why the line of a service is not written.

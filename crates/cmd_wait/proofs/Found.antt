@@ -1,6 +1,6 @@
 -- What rounds found: each service is left, or a look found it.
 use Rattle.std.proofs.Common.{◌≡◌, ℕ, List, [], ◌∷◌, ◌++◌, ◌⊎◌, refl, sym, ◌∙◌, subst, inl, inr, append-nil, Option}
-use Rattle.cmd_svc.specs.Calls.{Call}
+use Rattle.svc_client.specs.Calls.{Call}
 use Rattle.cmd_wait.specs.Finding.{Awaited, finding_of}
 use Rattle.cmd_wait.specs.Watching.{Watched}
 use Rattle.cmd_wait.specs.Words.{Order}

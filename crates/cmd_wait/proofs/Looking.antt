@@ -7,8 +7,8 @@ use Rattle.std.proofs.lemmas.List.Elements.{All-push}
 use Rattle.std.proofs.lemmas.Grind.{flat_map-append}
 use Rattle.std.proofs.Math.Seq.{drop-cons, drop-append_seam, take-length, drop-length}
 use Rattle.tai_status.specs.Extended.{Extended}
-use Rattle.cmd_svc.specs.Calls.{Call}
-use Rattle.cmd_svc.proofs.Turns.{extended-then, taken-one}
+use Rattle.svc_client.specs.Calls.{Call}
+use Rattle.svc_client.proofs.Turns.{extended-then, taken-one}
 use Rattle.cmd_wait.specs.Finding.{Awaited, awaited, service, folders, entry_folders, calls_of_look, finding_of, Finds}
 use Rattle.cmd_wait.specs.Rounds.{Look, LooksAt, GoesOn, seen, calls_of, left_at, left_by}
 use Rattle.cmd_wait.specs.declared.finding.Goal.{Goal}

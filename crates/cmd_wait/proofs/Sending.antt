@@ -3,7 +3,7 @@ use Rattle.std.proofs.Common.{◌≡◌, ℕ, ◌+◌, ◌<◌, List, [], ◌∷
 use Rattle.std.proofs.Common.{refl, sym, ap, ◌∙◌, subst, append-nil}
 use Rattle.std.proofs.lemmas.List.{map-append, take_more}
 use Rattle.std.proofs.lemmas.Grind.{flat_map-append}
-use Rattle.cmd_svc.specs.Turns.{InTurn}
+use Rattle.svc_client.specs.Turns.{InTurn}
 use Rattle.cmd_wait.specs.Finding.{Awaited, awaited, entry_folders, folders, unmarked}
 use Rattle.cmd_wait.specs.Restarting.{sent_at, sent_to}
 use Rattle.cmd_wait.specs.declared.finding.Entry.{Entry}

@@ -2,7 +2,7 @@
 use Rattle.std.proofs.Common.{◌≡◌, ◌≢◌, ℕ, List, [], ◌∷◌, length, refl, Option, arith}
 use Rattle.tai_status.specs.Counted.{Device}
 use Rattle.tai_status.specs.Extended.{Extended}
-use Rattle.cmd_svc.specs.Calls.{Call}
+use Rattle.svc_client.specs.Calls.{Call}
 use Rattle.cmd_wait.specs.Steps.{Step, Read, Sight, sight, IsOver}
 use Rattle.cmd_wait.specs.Words.{Order}
 use Rattle.cmd_wait.specs.Finding.{Awaited, awaited, folders}

@@ -7,8 +7,8 @@ use Rattle.tai_status.specs.declared.record.RecordFault.{RecordFault}
 use Rattle.cmd_base.specs.Usage.{usage_text}
 use Rattle.cmd_base.specs.declared.command.Command.TheVariants as command
 use Rattle.cmd_svc.specs.Svstat.{fault_name}
-use Rattle.cmd_svc.specs.Calls.{Call}
-use Rattle.cmd_svc.specs.Turns.{InTurn}
+use Rattle.svc_client.specs.Calls.{Call}
+use Rattle.svc_client.specs.Turns.{InTurn}
 use Rattle.cmd_svc.specs.Missing.{TellsEach, telling}
 use Rattle.cmd_svc.specs.Words.{texts}
 use Rattle.cmd_wait.specs.Steps.{Step, Read, Sight, sight, IsOver}

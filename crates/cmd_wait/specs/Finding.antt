@@ -12,12 +12,12 @@ use Rattle.tai_status.specs.declared.phase.Phase.{Phase}
 use Rattle.tai_status.specs.declared.phase.Phase.TheVariants as phase
 use Rattle.tai_status.specs.declared.record.RecordFault.{RecordFault}
 use Rattle.svc_exit.specs.declared.moment.Moment.{Moment}
-use Rattle.cmd_svc.specs.Calls.{Call, Reached, ReadNotice, ReadStatus, SoughtAge}
+use Rattle.svc_client.specs.Calls.{Call, Reached, ReadNotice, ReadStatus, SoughtAge}
 use Rattle.cmd_svc.specs.Course.{IsNoticed, ReadsNotice, about, is_about}
-use Rattle.cmd_svc.specs.declared.course.Notice.TheVariants as notice
+use Rattle.svc_client.specs.declared.notice.Notice.TheVariants as notice
 use Rattle.cmd_svc.specs.Line.{is_running}
-use Rattle.cmd_svc.specs.declared.services.Unreached.{Unreached}
-use Rattle.cmd_svc.specs.declared.services.Unreached.TheVariants.{NotRunning, Denied, Unanswered}
+use Rattle.svc_client.specs.declared.services.Unreached.{Unreached}
+use Rattle.svc_client.specs.declared.services.Unreached.TheVariants.{NotRunning, Denied, Unanswered}
 use Rattle.cmd_wait.specs.declared.finding.Goal.{Goal}
 use Rattle.cmd_wait.specs.declared.finding.Mark.{Mark}
 use Rattle.cmd_wait.specs.declared.finding.Entry.{Entry}

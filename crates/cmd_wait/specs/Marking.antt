@@ -6,11 +6,11 @@ use Rattle.tai_status.specs.Record.{Status}
 use Rattle.tai_status.specs.Loading.{loaded_from, status_in}
 use Rattle.tai_status.specs.declared.loading.Loaded.{Loaded}
 use Rattle.tai_status.specs.declared.record.RecordFault.{RecordFault}
-use Rattle.cmd_svc.specs.Calls.{Call, Reached, ReadStatus}
+use Rattle.svc_client.specs.Calls.{Call, Reached, ReadStatus}
 use Rattle.cmd_svc.specs.Line.{is_running, wants_up}
-use Rattle.cmd_svc.specs.Turns.{InTurn}
-use Rattle.cmd_svc.specs.declared.services.Unreached.{Unreached}
-use Rattle.cmd_svc.specs.declared.services.Unreached.TheVariants.{NotRunning, Denied, Unanswered}
+use Rattle.svc_client.specs.Turns.{InTurn}
+use Rattle.svc_client.specs.declared.services.Unreached.{Unreached}
+use Rattle.svc_client.specs.declared.services.Unreached.TheVariants.{NotRunning, Denied, Unanswered}
 use Rattle.cmd_wait.specs.Finding.{Awaited, service}
 use Rattle.cmd_wait.specs.declared.finding.Mark.{Mark}
 use Rattle.cmd_wait.specs.declared.finding.WaitFault.{WaitFault}

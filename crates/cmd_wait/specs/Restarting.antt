@@ -4,9 +4,9 @@ use Rattle.std.specs.Borrow.{Bor}
 use Rattle.tai_status.specs.Counted.{Device, Reports}
 use Rattle.cmd_base.specs.Usage.{usage_text}
 use Rattle.cmd_base.specs.declared.command.Command.TheVariants as command
-use Rattle.cmd_svc.specs.Calls.{Call}
+use Rattle.svc_client.specs.Calls.{Call}
 use Rattle.cmd_svc.specs.Svc.{Serves, sending}
-use Rattle.cmd_svc.specs.Turns.{InTurn}
+use Rattle.svc_client.specs.Turns.{InTurn}
 use Rattle.cmd_svc.specs.Words.{texts}
 use Rattle.cmd_wait.specs.Steps.{Step, sight}
 use Rattle.cmd_wait.specs.Words.{Order, AskNoRestart, AsksRestart}

@@ -1,7 +1,7 @@
 -- How services are waited for, in rounds.
 use Rattle.std.specs.Prelude.{◌≡◌, ◌≢◌, ◌⊎◌, ⊤, ℕ, List, [], ◌∷◌, ◌++◌, map, flat_map, All, Option}
 use Rattle.tai_status.specs.Extended.{Extended}
-use Rattle.cmd_svc.specs.Calls.{Call}
+use Rattle.svc_client.specs.Calls.{Call}
 use Rattle.cmd_wait.specs.Steps.{Read, Sight, IsOver}
 use Rattle.cmd_wait.specs.Finding.{IsSighting, Sighting, Awaited, service, calls_of_look, finding_of, folders, Finds}
 use Rattle.cmd_wait.specs.Watching.{Watched, watched, Pauses}

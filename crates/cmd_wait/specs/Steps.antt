@@ -1,6 +1,6 @@
 -- What a wait asks of its pace, with the results, and what it has done so far.
 use Rattle.std.specs.Prelude.{ℕ, ◌-◌, ◌*◌, ◌≤◌, List, Option, Some, None}
-use Rattle.cmd_svc.specs.Calls.{Call}
+use Rattle.svc_client.specs.Calls.{Call}
 
 -- The clock was read, and showed this many milliseconds; or the wait rested.
 pub data Step : Type 0 where

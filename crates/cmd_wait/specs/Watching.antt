@@ -2,8 +2,8 @@
 use Rattle.std.specs.Prelude.{◌≡◌, ◌↔◌, ◌⊎◌, ℕ, ◌+◌, ◌-◌, ◌<◌, ◌==◌, nat_lt, max, List, [], ◌∷◌, Option, Some, None}
 use Rattle.std.specs.Prelude.{Bool, true, false, not, ◌||◌, if◌then◌else◌, IsTrue}
 use Rattle.tai_status.specs.Extended.{Extended}
-use Rattle.cmd_svc.specs.Calls.{Call, SoughtChange}
-use Rattle.cmd_svc.specs.Turns.{InTurn}
+use Rattle.svc_client.specs.Calls.{Call, SoughtChange}
+use Rattle.svc_client.specs.Turns.{InTurn}
 use Rattle.cmd_wait.specs.Finding.{entry_folders}
 use Rattle.cmd_wait.specs.declared.finding.Entry.{Entry}
 use Rattle.cmd_wait.specs.Steps.{Step, Read, Rested, Sight, sight, IsOver}

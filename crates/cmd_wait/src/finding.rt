@@ -4,10 +4,10 @@ ghost use Rattle.tai_status.specs.Extended.{Extended};
 ghost use Rattle.cmd_wait.specs.Finding.{absent_finding, calls_of_age, has_lasted, is_another, is_down, is_up};
 ghost use Rattle.cmd_wait.specs.Finding.{process_asked, reached_if, record_finding, service, unread_finding};
 ghost use Rattle.cmd_wait.specs.Finding.{unsupervised_finding, AsksReady, Finds, asks_ready, is_ready};
-ghost use Rattle.cmd_svc.specs.Line.{is_running};
 
-use cmd_svc::{Notice, Services, Unreached, about, read_moment};
+use cmd_svc::{about, is_running, read_moment};
 use std::io::ErrorKind;
+use svc_client::{Notice, Services, Unreached};
 use svc_exit::Moment;
 use tai_status::{Label, Loaded, Phase, RecordFault, View, decode_front};
 
@@ -176,13 +176,6 @@ fn process_asked(state: WaitState, read: &Result<Loaded, RecordFault>) -> Option
         (WaitState::Ready, Ok(loaded)) if is_running(&loaded.view()) => Some(loaded.view().pid),
         _ => None,
     }
-}
-
-/// Returns whether a record names a process.
-fn is_running(view: &View) -> bool
-    ensures { result ≡ is_running view.now }
-{
-    view.pid >= 1
 }
 
 /// Returns the age of that process, if there is one to ask about and it lives.

@@ -7,8 +7,8 @@ ghost use Rattle.cmd_wait.specs.Marking.{Glimpses, MarksEach, MarksNot};
 
 use crate::finding::{Entry, Mark, WaitFault};
 use crate::rounds::Failure;
-use cmd_svc::{Services, Unreached};
 use std::alloc::{AllocError, Allocator};
+use svc_client::{Services, Unreached};
 use tai_status::{Loaded, RecordFault, View, Want, decode_front};
 
 /// What the first look at services is for.

@@ -1,7 +1,7 @@
 //! The command `restart`.
 ghost use Rattle.std.specs.Prelude.{◌≡◌, false};
 ghost use Rattle.cmd_svc.specs.Svc.{Serves, sending};
-ghost use Rattle.cmd_svc.specs.Turns.{InTurn};
+ghost use Rattle.svc_client.specs.Turns.{InTurn};
 ghost use Rattle.cmd_svc.specs.Words.{texts};
 ghost use Rattle.cmd_wait.specs.Finding.{awaited, unmarked};
 ghost use Rattle.cmd_wait.specs.Restarting.{RestartEnds, RestartsAndTells, RestartsAsked, restart_bytes};
@@ -14,10 +14,11 @@ use crate::pace::Pace;
 use crate::sayings::report_failure;
 use crate::wait::wait_for;
 use cmd_base::{Command, TROUBLE, report, usage};
-use cmd_svc::{Services, serve, tell_missing};
+use cmd_svc::{serve, tell_missing};
 use std::alloc::Allocator;
 use std::io::Write;
 use std::sync::Wait;
+use svc_client::Services;
 use tai_status::Output;
 
 /// Asks for TERM and CONT, as `svc -t` does, if a service has a process. Returns whether some service was not reached,

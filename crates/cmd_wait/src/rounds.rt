@@ -5,8 +5,8 @@ ghost use Rattle.cmd_wait.specs.Rounds.{FailsWith, LooksAt};
 ghost use Rattle.cmd_wait.specs.Steps.{IsOver};
 
 use crate::finding::{Entry, Finding, Goal, WaitFault, look};
-use cmd_svc::Services;
 use std::alloc::Allocator;
+use svc_client::Services;
 
 /// A service that can't be waited for, and why.
 #[derive(Clone, Copy, Debug)]

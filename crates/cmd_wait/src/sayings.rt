@@ -1,6 +1,6 @@
 //! What is reported about services.
 ghost use Rattle.std.specs.Prelude.{◌≡◌};
-ghost use Rattle.cmd_svc.specs.Turns.{InTurn};
+ghost use Rattle.svc_client.specs.Turns.{InTurn};
 ghost use Rattle.tai_status.specs.Counted.{Reports};
 ghost use Rattle.cmd_wait.specs.Finding.{entry_folders};
 ghost use Rattle.cmd_wait.specs.Ends.{bad_note, fault_note, fault_status, over_note, report_of, ReportsOver};

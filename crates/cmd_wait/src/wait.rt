@@ -12,10 +12,11 @@ use crate::rounds::{is_over, look_at_each};
 use crate::sayings::{report_failure, report_over};
 use crate::watch::{Watch, pause};
 use cmd_base::{Command, DONE, TROUBLE, report, usage};
-use cmd_svc::{Services, tell_missing};
+use cmd_svc::tell_missing;
 use std::alloc::Allocator;
 use std::io::Write;
 use std::sync::Wait;
+use svc_client::Services;
 use tai_status::Output;
 
 /// The exit status of a wait whose time is over.

@@ -6,7 +6,7 @@ ghost use Rattle.cmd_wait.specs.Watching.{is_same, newer, LearnsNewest, PausesFo
 use crate::finding::Entry;
 use crate::pace::Pace;
 use crate::rounds::is_over;
-use cmd_svc::Services;
+use svc_client::Services;
 
 /// The number of rests in a second.
 const MOST_RESTS: u32 = 22;

@@ -1,13 +1,13 @@
 -- What `why` finds and writes, and how it ends.
 use Rattle.std.specs.Prelude.{◌≡◌, ◌⊎◌, ℕ, Bool, true, false, not, ◌||◌, if◌then◌else◌, List, [], ◌∷◌, ◌++◌, codes}
 use Rattle.std.specs.Prelude.{◌≢◌, Option, Some, None, option_map, Ok, Err, is_some}
-use Rattle.std.specs.declared.io.ErrorKind.{ErrorKind}
-use Rattle.std.specs.declared.io.ErrorKind.TheVariants as io
 use Rattle.tai_status.specs.Label.{Tai64n}
 use Rattle.tai_status.specs.Extended.{Extended}
 use Rattle.tai_status.specs.Counted.{Device, Fails, Reports, Works, Wrote, WroteFront, device_report}
 use Rattle.tai_status.specs.Loading.{loaded_from, status_in}
 use Rattle.tai_status.specs.Record.{Status}
+use Rattle.tai_status.specs.declared.cause.Cause.{Cause}
+use Rattle.tai_status.specs.declared.cause.Cause.TheVariants as cause
 use Rattle.tai_status.specs.declared.loading.Loaded.{Loaded}
 use Rattle.tai_status.specs.declared.record.RecordFault.{RecordFault}
 use Rattle.sup_trace.specs.Content.{Content, IsContent}
@@ -15,17 +15,18 @@ use Rattle.sup_trace.specs.Text.{trace_text}
 use Rattle.sup_trace.specs.Reading.{content_from}
 use Rattle.sup_trace.specs.declared.fault.TraceFault.{TraceFault}
 use Rattle.cmd_base.specs.Known.{IsKnown}
-use Rattle.cmd_svc.specs.Calls.{Call, Reached, ReadStatus, SoughtDown}
+use Rattle.svc_client.specs.Calls.{Call, Reached, ReadNotice, ReadStatus, SoughtDown, SoughtFolder}
 use Rattle.cmd_svc.specs.Course.{SeeksCourse}
 use Rattle.cmd_svc.specs.Line.{is_running}
 use Rattle.cmd_svc.specs.declared.course.Course.{Course}
-use Rattle.cmd_svc.specs.declared.services.Unreached.{Unreached}
-use Rattle.cmd_svc.specs.declared.services.Unreached.TheVariants as unreached
+use Rattle.svc_client.specs.declared.notice.Notice.TheVariants as notice
+use Rattle.svc_client.specs.declared.services.Unreached.{Unreached}
+use Rattle.svc_client.specs.declared.services.Unreached.TheVariants as unreached
 use Rattle.cmd_svc.specs.Shown.{shown}
 use Rattle.cmd_svc.specs.Missing.{TellsEach, telling}
-use Rattle.cmd_svc.specs.Sight.{Sight, sight}
+use Rattle.svc_client.specs.Sight.{Sight, sight}
 use Rattle.cmd_svc.specs.Svstat.{fault_name}
-use Rattle.cmd_svc.specs.Turns.{InTurn}
+use Rattle.svc_client.specs.Turns.{InTurn}
 use Rattle.svc_exit.specs.declared.exit.Exit.{Exit}
 use Rattle.cmd_why.specs.Texts.{Knowledge}
 use Rattle.cmd_why.specs.Facts.{facts_of, leads_to}
@@ -58,17 +59,18 @@ abbrev pub is_unanswered : Unreached → Bool
 is_unanswered unreached.Unanswered = true
 is_unanswered other = false
 
-abbrev pub is_denied : Option ErrorKind → Bool
-is_denied (Some io.PermissionDenied) = true
+abbrev pub is_denied : Option Cause → Bool
+is_denied (Some cause.Denied) = true
+is_denied (Some cause.NotPermitted) = true
 is_denied other = false
 
 -- There is no such folder, or something else has that name.
-abbrev pub is_missing : Option ErrorKind → Bool
-is_missing (Some io.NotFound) = true
-is_missing (Some io.NotADirectory) = true
+abbrev pub is_missing : Option Cause → Bool
+is_missing (Some cause.Missing) = true
+is_missing (Some cause.NoFolder) = true
 is_missing other = false
 
-abbrev pub absence_of : Unreached → Option ErrorKind → Absence
+abbrev pub absence_of : Unreached → Option Cause → Absence
 absence_of why looked =
     if is_denied_socket why || is_denied looked then absence.NoPermission
     else if is_missing looked then absence.NoFolder
@@ -128,15 +130,16 @@ abbrev pub IsTraceOf : (trace : Option (List ℕ)) → Option Content → Type 0
 IsTraceOf trace None = (trace ≡ None) ⊎ IsRefused trace
 IsTraceOf trace (Some content) = IsTraceText trace content
 
--- A line was read, and it says this.
-pub record ReadsLine (known : Option (List ℕ)) (exit : Option Exit) : Type 0 where
-  pub line : List ℕ
-  pub line_is : IsKnown known line
-  pub reads : Reads line exit
+-- What the file `exit` says, if it could be read. None if it is not the line of any exit.
+abbrev pub IsExitIn : (text : Option (List ℕ)) → Option Exit → Type 0
+IsExitIn None exit = exit ≡ None
+IsExitIn (Some text) exit = Reads text exit
 
--- what the file `exit` says; None if it is not known to exist, or is not the line of any exit
-abbrev pub IsExitOf : (known : Option (List ℕ)) → Option Exit → Type 0
-IsExitOf known exit = ((known ≡ None) × (exit ≡ None)) ⊎ ReadsLine known exit
+-- The file `exit` of the service in a folder was read, and says this.
+pub record ReadsExit (folder : List ℕ) (exit : Option Exit) (past now : Option (List Call)) : Type 0 where
+  pub text : Option (List ℕ)
+  pub says : IsExitIn text exit
+  pub asked : Extended past now (ReadNotice folder notice.Exit text ∷ [])
 
 -- This is the picture of a trace for a record, at a clock reading, and the local time of its left end.
 pub record IsPicture (times : Tai64n → Option (List ℕ)) (content : Content) (status : Status) (now : Tai64n)
@@ -173,35 +176,34 @@ pub record ReachesBad (folder : List ℕ) (cause : RecordFault) (past now : Opti
   pub asked : Extended past now (Reached folder None ∷ ReadStatus folder (Some bytes) ∷ [])
 
 -- The service was not reached. Its folder was looked at, and that says why no supervisor responds.
-pub record ReachesNobody (k : Knowledge) (folder : List ℕ) (absence : Absence) (past now : Option (List Call))
-    : Type 0 where
+pub record ReachesNobody (folder : List ℕ) (absence : Absence) (past now : Option (List Call)) : Type 0 where
   pub why : Unreached
-  pub looked : Option ErrorKind
-  pub look_is : IsKnown (k.looks folder) looked
+  pub looked : Option Cause
   pub absence_is : absence ≡ absence_of why looked
-  pub asked : Extended past now (Reached folder (Some why) ∷ [])
+  pub asked : Extended past now (Reached folder (Some why) ∷ SoughtFolder folder looked ∷ [])
 
 -- What was asked of the service in a folder, with the results: whether it is supervised, and only then its status. If
 -- that is a record, its file `down` was looked for, and it was sought what the service does that the record does not say.
-abbrev pub Reaches : Knowledge → (folder : List ℕ) → Reach → (past now : Option (List Call)) → Type 0
-Reaches k folder (reach.Absent absence) past now = ReachesNobody k folder absence past now
-Reaches k folder reach.Unread past now = Extended past now (Reached folder None ∷ ReadStatus folder None ∷ [])
-Reaches k folder (reach.Bad cause) past now = ReachesBad folder cause past now
-Reaches k folder (reach.Standing loaded normally_up course) past now =
+abbrev pub Reaches : (folder : List ℕ) → Reach → (past now : Option (List Call)) → Type 0
+Reaches folder (reach.Absent absence) past now = ReachesNobody folder absence past now
+Reaches folder reach.Unread past now = Extended past now (Reached folder None ∷ ReadStatus folder None ∷ [])
+Reaches folder (reach.Bad cause) past now = ReachesBad folder cause past now
+Reaches folder (reach.Standing loaded normally_up course) past now =
     ReachesStanding folder loaded normally_up course past now
 
--- The trace of a service was read, and then the clock, once. Its state is said from its record, that trace and this
--- reading, and the last end of a process from that trace and the file `exit`. A timeline is drawn if it is asked for.
+-- The trace of a service was read, then the clock, once, and then the file `exit`. Its state is said from its record, that
+-- trace and this reading, and the last end of a process from that trace and that file. A timeline is drawn if it is asked
+-- for.
 pub record FindsStanding (k : Knowledge) (timeline : Bool) (folder : List ℕ) (loaded : Loaded) (normally_up : Bool)
-    (course : Course) (past now : Option (List Tai64n)) (s : Standing) : Type 0 where
+    (course : Course) (old new : Sight) (s : Standing) : Type 0 where
   pub content : Option Content
   pub trace : IsTraceOf (k.traces folder) content
-  pub read : Extended past now (s.now ∷ [])
+  pub read : Extended old.readings new.readings (s.now ∷ [])
   pub loaded_is : s.loaded ≡ loaded
   pub normally_is : s.normally_up ≡ normally_up
   pub facts : s.facts ≡ option_map (λ content. facts_of content (status_in loaded) s.now) content
   pub exit : Option Exit
-  pub exit_is : IsExitOf (k.exits folder) exit
+  pub exit_is : ReadsExit folder exit old.calls new.calls
   pub last : s.last ≡ last_end s.facts exit
   pub course_is : s.course ≡ course
   pub course_time : IsKnown (k.times (time_of_course course (status_in loaded).label)) s.course_time.bytes
@@ -209,14 +211,31 @@ pub record FindsStanding (k : Knowledge) (timeline : Bool) (folder : List ℕ) (
   pub drawing : IsDrawing k.times timeline content (status_in loaded) s.now s.drawing
 
 -- What a look found, from the result of the calls.
-abbrev pub Finds : Knowledge → (timeline : Bool) → (folder : List ℕ) → Reach → Found → (past now : Option (List Tai64n))
-    → Type 0
-Finds k timeline folder (reach.Absent absence) (found.Absent content) past now = (content ≡ absence) × (now ≡ past)
-Finds k timeline folder reach.Unread found.Unread past now = now ≡ past
-Finds k timeline folder (reach.Bad cause) (found.Bad content) past now = (content ≡ cause) × (now ≡ past)
-Finds k timeline folder (reach.Standing loaded normally_up course) (found.Standing s) past now =
-    FindsStanding k timeline folder loaded normally_up course past now s
-Finds k timeline folder other found past now = ⊥
+abbrev pub Finds : Knowledge → (timeline : Bool) → (folder : List ℕ) → Reach → Found → (old new : Sight) → Type 0
+Finds k timeline folder (reach.Absent absence) (found.Absent content) old new = (content ≡ absence) × (new ≡ old)
+Finds k timeline folder reach.Unread found.Unread old new = new ≡ old
+Finds k timeline folder (reach.Bad cause) (found.Bad content) old new = (content ≡ cause) × (new ≡ old)
+Finds k timeline folder (reach.Standing loaded normally_up course) (found.Standing s) old new =
+    FindsStanding k timeline folder loaded normally_up course old new s
+Finds k timeline folder other found old new = ⊥
+
+-- There was no memory before the file `exit` was read, or after that.
+abbrev pub MayReadExit : (folder : List ℕ) (past now : Option (List Call)) → Type 0
+MayReadExit folder past now = (now ≡ past) ⊎ ((exit : Option Exit) × ReadsExit folder exit past now)
+
+-- The service in a folder was asked, and then this was found.
+pub record Looks (k : Knowledge) (timeline : Bool) (folder : List ℕ) (found : Found) (old new : Sight) : Type 0 where
+  pub reach : Reach
+  pub asked : Option (List Call)
+  pub reaches : Reaches folder reach old.calls asked
+  pub finds : Finds k timeline folder reach found (sight asked old.readings) new
+
+-- The service was asked, and then there was no memory for what is found.
+pub record LooksInPart (folder : List ℕ) (old new : Sight) : Type 0 where
+  pub reach : Reach
+  pub asked : Option (List Call)
+  pub reaches : Reaches folder reach old.calls asked
+  pub may_read : MayReadExit folder asked new.calls
 
 -- Services in turn
 
@@ -232,10 +251,8 @@ scene sight writer unread = record { sight = sight; writer = writer; unread = un
 
 -- The service in a folder was looked at, and then the text about that was written.
 pub record Shows (k : Knowledge) (timeline : Bool) (folder : List ℕ) (old new : Scene) : Type 0 where
-  pub reach : Reach
-  pub reaches : Reaches k folder reach old.sight.calls new.sight.calls
   pub found : Found
-  pub finds : Finds k timeline folder reach found old.sight.readings new.sight.readings
+  pub looks : Looks k timeline folder found old.sight new.sight
   pub wrote : Wrote old.writer new.writer (found_text folder found)
   pub works : Works old.writer new.writer
   pub unread : new.unread ≡ (old.unread || is_unread found)
@@ -253,22 +270,20 @@ WritesNot fault.OutOfMemory text old new = new ≡ old
 WritesNot fault.Write text old new = WroteFront old new text × Fails old new
 
 -- There was no memory for the trace of the service in a folder, or for its text. Nothing was written.
-pub record LacksMemory (k : Knowledge) (folder : List ℕ) (old new : Scene) : Type 0 where
-  pub reach : Reach
-  pub reaches : Reaches k folder reach old.sight.calls new.sight.calls
+pub record LacksMemory (k : Knowledge) (timeline : Bool) (folder : List ℕ) (old new : Scene) : Type 0 where
+  pub looks : LooksInPart folder old.sight new.sight
+      ⊎ ((found : Found) × Looks k timeline folder found old.sight new.sight)
   pub unwritten : new.writer ≡ old.writer
 
 -- The service in a folder was looked at, and the writer failed after a front of the text about that.
 pub record FailsToWrite (k : Knowledge) (timeline : Bool) (folder : List ℕ) (old new : Scene) : Type 0 where
-  pub reach : Reach
-  pub reaches : Reaches k folder reach old.sight.calls new.sight.calls
   pub found : Found
-  pub finds : Finds k timeline folder reach found old.sight.readings new.sight.readings
+  pub looks : Looks k timeline folder found old.sight new.sight
   pub front : WroteFront old.writer new.writer (found_text folder found)
   pub fails : Fails old.writer new.writer
 
 abbrev pub FailsToShow : Knowledge → (timeline : Bool) → (folder : List ℕ) → WhyFault → (old new : Scene) → Type 0
-FailsToShow k timeline folder fault.OutOfMemory old new = LacksMemory k folder old new
+FailsToShow k timeline folder fault.OutOfMemory old new = LacksMemory k timeline folder old new
 FailsToShow k timeline folder fault.Write old new = FailsToWrite k timeline folder old new
 
 -- The same, for each value before and after. It says whether some service before this one could not be read.

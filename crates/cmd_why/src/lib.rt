@@ -12,7 +12,6 @@ mod last_ends;
 mod lines;
 mod sentences;
 mod sources;
-mod system;
 mod timeline;
 mod times;
 mod why;
@@ -25,6 +24,6 @@ pub use facts::{
 pub use last_ends::{LastEnd, last_end};
 pub use lines::{Absence, Drawing, Found, Picture, Standing, absence_of, found_line, found_text};
 pub use sentences::why_line;
-pub use sources::{Evidence, LocalTime, LocalTimes, ServiceEvidence, ServiceFiles};
+pub use sources::{Evidence, LocalTime, LocalTimes, ServiceEvidence};
 pub use timeline::{Bar, COLUMNS, Shown, Stretch, bar_of, stretches_of};
 pub use why::{WhyFault, read_content, read_exit, run_why};

@@ -9,10 +9,10 @@ use crate::last_ends::LastEnd;
 use crate::sentences::why_line;
 use crate::sources::LocalTime;
 use crate::timeline::{Bar, COLUMNS};
-use cmd_svc::{Course, Unreached, fault_name, shown};
+use cmd_svc::{Course, fault_name, shown};
 use std::alloc::{AllocError, Allocator};
-use std::io::ErrorKind;
-use tai_status::{Label, Loaded, RecordFault};
+use svc_client::Unreached;
+use tai_status::{Cause, Label, Loaded, RecordFault};
 
 /// Why no supervisor responds for a service.
 #[derive(Clone, Copy, Debug, PartialEq, Eq)]
@@ -87,7 +87,7 @@ pub struct Standing {
 /// Returns why no supervisor responds, from why the service was not reached, and why its folder can't be looked at, if
 /// it can't. The first of these that applies is returned: either permission is missing; there is no such folder; the
 /// folder can't be looked at, or somebody is there and does not respond; nobody is there.
-pub fn absence_of(why: Unreached, fault: Option<ErrorKind>) -> Absence
+pub fn absence_of(why: Unreached, fault: Option<Cause>) -> Absence
     ensures { result ≡ absence_of why fault }
 {
     if why == Unreached::Denied || is_denied(fault) {
@@ -103,17 +103,17 @@ pub fn absence_of(why: Unreached, fault: Option<ErrorKind>) -> Absence
 }
 
 /// Returns whether permission is missing.
-fn is_denied(fault: Option<ErrorKind>) -> bool
+fn is_denied(fault: Option<Cause>) -> bool
     ensures { result ≡ is_denied fault }
 {
-    matches!(fault, Some(ErrorKind::PermissionDenied))
+    matches!(fault, Some(Cause::Denied | Cause::NotPermitted))
 }
 
 /// Returns whether there is no such folder.
-fn is_missing(fault: Option<ErrorKind>) -> bool
+fn is_missing(fault: Option<Cause>) -> bool
     ensures { result ≡ is_missing fault }
 {
-    matches!(fault, Some(ErrorKind::NotFound | ErrorKind::NotADirectory))
+    matches!(fault, Some(Cause::Missing | Cause::NoFolder))
 }
 
 /// Returns why no supervisor responds, in words.

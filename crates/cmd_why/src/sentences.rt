@@ -1,6 +1,6 @@
 //! What is said about a service: sentences, each by a rule over its status record, its trace and the clock.
 ghost use Rattle.std.specs.Prelude.{◌≡◌, ◌++◌, string_bytes, decimal, codes, IfOk, OnOk};
-ghost use Rattle.cmd_svc.specs.Line.{is_running, note};
+ghost use Rattle.cmd_svc.specs.Line.{note};
 ghost use Rattle.cmd_why.specs.Sentences.{cause_sentence, count_sentence, count_words, end_text, ended_words};
 ghost use Rattle.cmd_why.specs.Sentences.{end_opening, end_sentence, exit_words, how_words, is_before, led_sentences};
 ghost use Rattle.cmd_why.specs.Sentences.{last_words, past_sentences, phase_text, process_text, starts_sentence};
@@ -15,8 +15,7 @@ ghost use Rattle.std.specs.Option.{option_copied};
 use crate::courses::push_course;
 use crate::facts::{Ended, FLAPPING, Facts, nanos};
 use crate::last_ends::{LastEnd, time_of_end};
-use cmd_svc::Course;
-use itoa::Buffer;
+use cmd_svc::{Course, is_running, push_number};
 use std::alloc::{AllocError, Allocator};
 use sup_core::{byte_text, sig_name, signal_of};
 use svc_exit::{Ending, Exit, signal_name};
@@ -99,21 +98,6 @@ pub fn why_line<A: Allocator>(
     push_course(&mut line, course, course_time)?;
     push_traced_starts(&mut line, facts)?;
     Ok(line)
-}
-
-/// Returns whether a service runs.
-pub(crate) fn is_running(view: &View) -> bool
-    ensures { result ≡ is_running view.now }
-{
-    view.pid >= 1
-}
-
-/// Writes a number at the end of a text.
-fn push_number<A: Allocator>(out: &mut String<A>, number: u128) -> Result<(), AllocError>
-    ensures { OnOk result (string_bytes out.new ≡ string_bytes out.old ++ decimal number) }
-{
-    let mut buffer = Buffer::new();
-    out.push_str(buffer.format(number))
 }
 
 /// Writes the state of a service.

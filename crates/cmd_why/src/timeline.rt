@@ -9,8 +9,8 @@ ghost use Rattle.cmd_why.specs.Timeline.{stretches_of};
 ghost use Rattle.cmd_why.specs.Timeline.{tail, throughout, width};
 
 use crate::facts::nanos;
-use crate::sentences::is_running;
 use arrayvec::ArrayString;
+use cmd_svc::is_running;
 use std::alloc::{AllocError, Allocator};
 use sup_core::{Event, Machine, Phase};
 use sup_trace::TraceText;

@@ -1,12 +1,13 @@
 //! The command `why`.
-ghost use Rattle.std.specs.Prelude.{◌≡◌, false, if◌then◌else◌, OnOk, IfOk, IfErr};
+ghost use Rattle.std.specs.Prelude.{◌≡◌, false, if◌then◌else◌, OnOk, OnErr, IfOk, IfErr};
 ghost use Rattle.std.specs.Option.{option_copied};
 ghost use Rattle.std.specs.Prelude.{option_map};
 ghost use Rattle.tai_status.specs.Counted.{Reports, Wrote, Works};
 ghost use Rattle.cmd_svc.specs.Words.{texts};
 ghost use Rattle.cmd_why.specs.Facts.{facts_of};
-ghost use Rattle.cmd_why.specs.Why.{found_text, is_unread, why_report, Finds, FindsStanding, IsDrawing};
-ghost use Rattle.cmd_why.specs.Why.{IsExitOf, IsPicture, IsTraceOf, Reaches, ShowEnds, ShowsEach, ShowsNot};
+ghost use Rattle.cmd_why.specs.Why.{found_text, is_unread, why_report, FindsStanding, IsDrawing};
+ghost use Rattle.cmd_why.specs.Why.{IsPicture, IsTraceOf, Looks, LooksInPart, MayReadExit, Reaches, ReadsExit, ShowEnds};
+ghost use Rattle.cmd_why.specs.Why.{ShowsEach, ShowsNot};
 ghost use Rattle.cmd_why.specs.Why.{ShowsOne, ShowsUpTo, WhyEnds, WritesNot};
 
 use crate::courses::time_of_course;
@@ -16,10 +17,11 @@ use crate::lines::{Absence, Drawing, Found, Picture, Standing, absence_of, found
 use crate::sources::Evidence;
 use crate::timeline::{bar_of, left_end};
 use cmd_base::{DONE, TROUBLE, report, report_device};
-use cmd_svc::{Course, Observer, Services, ask_course, tell_missing};
+use cmd_svc::{Course, ask_course, tell_missing};
 use std::alloc::{AllocError, Allocator};
 use std::io::{ErrorKind, Write};
 use sup_trace::{TraceFaultKind, TraceText, read_text};
+use svc_client::{Notice, Observer, Services};
 use svc_exit::Exit;
 use tai_status::{Label, Loaded, Output, RecordFault, TimeSource, View, decode_front};
 
@@ -47,11 +49,11 @@ pub(crate) enum Reach {
 
 /// Asks the service in a folder whether it is supervised, then for its status, then for its file `down`, then for what it
 /// does that its status does not say. The first of these that fails ends that.
-fn reach_service<S: Services, K: Evidence>(services: &mut S, sources: &K, folder: &str) -> Reach
-    ensures { Reaches (K.known sources.now) folder.now result (S.calls services.old) (S.calls services.new) }
+fn reach_service<S: Services>(services: &mut S, folder: &str) -> Reach
+    ensures { Reaches folder.now result (S.calls services.old) (S.calls services.new) }
 {
     if let Err(why) = services.reach(folder) {
-        return Reach::Absent(absence_of(why, sources.folder_fault(folder)));
+        return Reach::Absent(absence_of(why, services.folder_fault(folder)));
     }
     let Ok(front) = services.read_status(folder) else {
         return Reach::Unread;
@@ -98,13 +100,13 @@ fn facts_in<A: Allocator>(
     }
 }
 
-/// Returns what the file `exit` of the service in a folder says, if it can be read.
-pub fn read_exit<K: Evidence>(sources: &K, folder: &str) -> Option<Exit>
-    ensures { IsExitOf ((K.known sources.now).exits folder.now) result }
+/// Reads what the file `exit` of the service in a folder says, if it can be read.
+pub fn read_exit<S: Services>(services: &mut S, folder: &str) -> Option<Exit>
+    ensures { ReadsExit folder.now result (S.calls services.old) (S.calls services.new) }
 {
-    match sources.read_exit(folder) {
-        Ok(line) => svc_exit::read_exit(line.as_slice()),
-        Err(_) => None,
+    match services.read_notice(folder, Notice::Exit) {
+        Some(text) => svc_exit::read_exit(text.as_slice()),
+        None => None,
     }
 }
 
@@ -147,24 +149,25 @@ fn draw<A: Allocator + Clone, K: Evidence>(
 }
 
 /// Returns the state of the service in a folder whose record says this.
-fn stand<A: Allocator + Clone, K: Evidence, C: TimeSource>(
+fn stand<S: Services, A: Allocator + Clone, K: Evidence, C: TimeSource>(
     alloc: &A,
     timeline: bool,
+    observer: &mut Observer<S, C>,
     sources: &K,
-    clock: &mut C,
     folder: &str,
     loaded: Loaded,
     normally_up: bool,
     course: Course,
 ) -> Result<Standing, AllocError>
-    ensures { IfOk result (FindsStanding (K.known sources.now) timeline folder.now loaded normally_up course
-        (C.readings clock.old) (C.readings clock.new)) }
+    ensures ok { IfOk result (FindsStanding (K.known sources.now) timeline folder.now loaded normally_up course
+        observer.old observer.new) }
+    ensures err { OnErr result (MayReadExit folder.now observer.old.calls observer.new.calls) }
 {
     let content = read_content(alloc, sources, folder)?;
-    let now = clock.now();
+    let now = observer.clock.now();
     let status = loaded.view();
     let facts = facts_in(content.as_ref(), &status, &now);
-    let last = last_end(facts.as_ref(), read_exit(sources, folder));
+    let last = last_end(facts.as_ref(), read_exit(&mut observer.services, folder));
     let drawing = draw(alloc, sources, timeline, content.as_ref(), &status, &now)?;
     Ok(Standing {
         loaded,
@@ -179,27 +182,27 @@ fn stand<A: Allocator + Clone, K: Evidence, C: TimeSource>(
     })
 }
 
-/// Returns what a look at the service in a folder found, from the result of its calls.
-fn find<A: Allocator + Clone, K: Evidence, C: TimeSource>(
+/// Asks the service in a folder, and returns what is found.
+fn look<S: Services, A: Allocator + Clone, K: Evidence, C: TimeSource>(
     alloc: &A,
     timeline: bool,
+    observer: &mut Observer<S, C>,
     sources: &K,
-    clock: &mut C,
     folder: &str,
-    reach: Reach,
 ) -> Result<Found, AllocError>
-    ensures { IfOk result (λ found.
-        Finds (K.known sources.now) timeline folder.now reach found (C.readings clock.old) (C.readings clock.new)) }
+    ensures ok { IfOk result (λ found.
+        Looks (K.known sources.now) timeline folder.now found observer.old observer.new) }
+    ensures err { OnErr result (LooksInPart folder.now observer.old observer.new) }
 {
-    match reach {
+    match reach_service(&mut observer.services, folder) {
         Reach::Absent(absence) => Ok(Found::Absent(absence)),
         Reach::Unread => Ok(Found::Unread),
         Reach::Bad(fault) => Ok(Found::Bad(fault)),
         Reach::Standing(loaded, normally_up, course) => Ok(Found::Standing(stand(
             alloc,
             timeline,
+            observer,
             sources,
-            clock,
             folder,
             loaded,
             normally_up,
@@ -265,9 +268,7 @@ where
     ensures err { IfErr result (ShowsNot (K.known sources.now) timeline folder.now
         observer.old observer.new writer.old writer.new unread) }
 {
-    let reached = reach_service(&mut observer.services, sources, folder);
-    let clock = &mut observer.clock;
-    let Ok(found) = find(alloc, timeline, sources, clock, folder, reached) else {
+    let Ok(found) = look(alloc, timeline, observer, sources, folder) else {
         return Err(WhyFault::OutOfMemory);
     };
     write_text(alloc, folder, &found, writer)?;

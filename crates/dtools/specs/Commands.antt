@@ -17,11 +17,10 @@ use Rattle.cmd_envdir.specs.Ends.{EnvdirStarts, EnvdirWrites}
 use Rattle.cmd_multilog.specs.Shelf.{Shelf}
 use Rattle.mlog_core.specs.Feed.{Feed}
 use Rattle.cmd_multilog.specs.Ends.{stage, MultilogEnds}
-use Rattle.cmd_svc.specs.Sight.{Sight}
+use Rattle.svc_client.specs.Sight.{Sight}
 use Rattle.cmd_svc.specs.Svc.{effects, SvcEnds}
 use Rattle.cmd_svc.specs.Svok.{SvokEnds}
 use Rattle.cmd_page.specs.Ends.{ViewEnds}
-use Rattle.cmd_report.specs.Finds.{Files}
 use Rattle.cmd_why.specs.Texts.{Knowledge}
 use Rattle.cmd_why.specs.Why.{WhyEnds}
 use Rattle.cmd_wait.specs.Steps.{Step, sight}
@@ -76,19 +75,19 @@ LoggerEnds command.Multilog words status shelf shelves feed feeds old new =
     (stage shelves feeds new.sight.readings new.console.faults)
 LoggerEnds other words status shelf shelves feed feeds old new = (shelves ≡ shelf) × (feeds ≡ feed)
 
--- Three of the commands that ask services, and what is known about the files of services.
-abbrev pub ServiceEnds : Command → (words : List (List ℕ)) (status : ℕ) (files : Files) (old new : Equipment)
+-- Three of the commands that ask services, and what is known about traces and about local times.
+abbrev pub ServiceEnds : Command → (words : List (List ℕ)) (status : ℕ) (known : Knowledge) (old new : Equipment)
     → Type 0
-ServiceEnds command.Svc words status files old new =
+ServiceEnds command.Svc words status known old new =
     SvcEnds words status (effects old.sight.calls old.console.faults) (effects new.sight.calls new.console.faults)
-ServiceEnds command.Svstat words status files old new =
-    ViewEnds files words status old.sight new.sight old.console.writer new.console.writer old.console.faults
+ServiceEnds command.Svstat words status known old new =
+    ViewEnds known words status old.sight new.sight old.console.writer new.console.writer old.console.faults
     new.console.faults
-ServiceEnds command.Svok words status files old new =
+ServiceEnds command.Svok words status known old new =
     SvokEnds words status old.sight.calls new.sight.calls × (new.console ≡ old.console)
-ServiceEnds other words status files old new = ⊤
+ServiceEnds other words status known old new = ⊤
 
--- `why`, and what is known about the files of services and about local times.
+-- `why`, and what is known about traces and about local times.
 abbrev pub ReasonEnds : Command → (words : List (List ℕ)) (status : ℕ) (known : Knowledge) (old new : Equipment)
     → Type 0
 ReasonEnds command.Why words status known old new =

@@ -8,7 +8,6 @@ use Rattle.cmd_base.specs.Commands.{command_named}
 use Rattle.cmd_base.specs.declared.command.Command.{Command}
 use Rattle.cmd_multilog.specs.Shelf.{Shelf}
 use Rattle.mlog_core.specs.Feed.{Feed}
-use Rattle.cmd_report.specs.Finds.{Files}
 use Rattle.cmd_why.specs.Texts.{Knowledge}
 use Rattle.cmd_wait.specs.Steps.{Step}
 use Rattle.svscan_rounds.specs.Calls.{Call}
@@ -62,9 +61,9 @@ LoggerProgram words status shelf shelves feed feeds old new =
     ByWords words ((shelves ≡ shelf) × (feeds ≡ feed)) ((shelves ≡ shelf) × (feeds ≡ feed))
     (λ command words. LoggerEnds command words status shelf shelves feed feeds old new)
 
-abbrev pub ServiceProgram : (words : List (List ℕ)) (status : ℕ) (files : Files) (old new : Equipment) → Type 0
-ServiceProgram words status files old new =
-    ByWords words ⊤ ⊤ (λ command words. ServiceEnds command words status files old new)
+abbrev pub ServiceProgram : (words : List (List ℕ)) (status : ℕ) (known : Knowledge) (old new : Equipment) → Type 0
+ServiceProgram words status known old new =
+    ByWords words ⊤ ⊤ (λ command words. ServiceEnds command words status known old new)
 
 abbrev pub ReasonProgram : (words : List (List ℕ)) (status : ℕ) (known : Knowledge) (old new : Equipment) → Type 0
 ReasonProgram words status known old new =

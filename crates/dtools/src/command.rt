@@ -2,7 +2,6 @@
 ghost use Rattle.std.specs.Prelude.{◌≡◌, []};
 ghost use Rattle.cmd_base.specs.Known.{known_files};
 ghost use Rattle.cmd_envdir.specs.System.{texts};
-ghost use Rattle.cmd_report.specs.Finds.{report_files};
 ghost use Rattle.cmd_why.specs.Texts.{knowledge};
 ghost use Rattle.tai_status.specs.Counted.{Reports};
 ghost use Rattle.dtools.specs.Commands.{ChildEnds, Leaves, LoggerEnds, PacedEnds, PlainEnds, ReasonEnds, ScanEnds};
@@ -11,125 +10,112 @@ ghost use Rattle.dtools.specs.Programs.{ChildProgram, LeftAlone, LoggerProgram, 
 ghost use Rattle.dtools.specs.Programs.{ReasonProgram, ScanProgram, ServiceProgram, ZonedProgram, no_command_report};
 
 use crate::devices::Devices;
-use cmd_base::{Command, FileSource, REFUSED, report};
-use cmd_envdir::{EnvSystem, Launcher, run_envdir};
+use crate::tools::{Platform, Tools};
+use cmd_base::{Command, REFUSED, report};
+use cmd_envdir::run_envdir;
 use cmd_filters::{run_readproctitle, run_tai64n};
 use cmd_help::{run_help, run_version};
-use cmd_local::{Zone, run_tai64nlocal};
-use cmd_multilog::{FolderStore, LogSystem, run_multilog};
+use cmd_local::run_tai64nlocal;
+use cmd_multilog::run_multilog;
 use cmd_page::run_view;
-use cmd_report::CountFiles;
 use cmd_sim::run_sim;
-use cmd_svc::{Services, run_svc, run_svok};
-use cmd_svscan::{ServiceSet, run_supervise, run_svscan};
+use cmd_svc::{run_svc, run_svok};
+use cmd_svscan::{run_supervise, run_svscan};
 use cmd_trace::run_trace;
-use cmd_wait::{Pace, run_restart, run_wait};
-use cmd_why::{LocalTimes, ServiceEvidence, ServiceFiles, run_why};
-use mlog_core::PartedInput;
-use std::io::{Read, Write};
-use std::sync::Wait;
-use svc_places::ServicePlaces;
-use tai_status::{Output, TimeSource};
+use cmd_wait::{run_restart, run_wait};
+use cmd_why::{ServiceEvidence, run_why};
+use std::io::Write;
+use tai_status::Output;
 
-/// Runs a command over the words after its name, and returns its exit status. A logger has an input of its own.
-fn run_command<R, L, K, I, S, P, V, T, Z, D, W, E, C>(
-    rt: &R,
-    launcher: &mut L,
-    store: &mut FolderStore<K>,
-    lines: &mut I,
-    service_set: &mut P,
-    waiting: &V,
-    pace: &mut T,
-    zone: &Z,
-    command: Command,
-    words: &[&str],
-    devices: &mut Devices<D, W, E, S, C>,
-) -> u8
-where
-    R: FileSource + ServicePlaces + EnvSystem + ServiceFiles + CountFiles + AllocGlobal,
-    L: Launcher,
-    K: LogSystem + Drop,
-    I: PartedInput,
-    S: Services,
-    P: ServiceSet,
-    V: Wait,
-    T: Pace,
-    Z: Zone + LocalTimes,
-    D: Read,
-    W: Write,
-    E: Write,
-    C: TimeSource,
-    requires ready { P.ready service_set.old }
-    requires no_logs { store.old.logs ≡ [] }
-    requires no_files { store.old.statuses ≡ [] }
-    ensures leaves { Leaves command devices.old devices.new }
-    ensures plain { PlainEnds command (texts words.now) result devices.old devices.new }
-    ensures zoned { ZonedEnds command (texts words.now) result (Z.ahead_at zone.now)
-        (known_files (R.file_at rt.now) (R.fault_at rt.now)) (R.place_at rt.now) devices.old devices.new }
-    ensures child { ChildEnds command (texts words.now) result (R.state rt.now)
-        (L.calls launcher.old) (L.calls launcher.new) devices.old devices.new }
-    ensures logs { LoggerEnds command (texts words.now) result store.old store.new
-        (I.feed lines.old) (I.feed lines.new) devices.old devices.new }
+/// Runs a command over the words after its name, and returns its exit status.
+fn run_command<P: Platform>(tools: &mut Tools<P>, command: Command, words: &[&str]) -> u8
+    requires ready { P.ServiceSet.ready tools.old.service_set }
+    requires no_logs { tools.old.store.logs ≡ [] }
+    requires no_files { tools.old.store.statuses ≡ [] }
+
+    // What the command does with the devices. What it does not get is unchanged.
+    ensures leaves { Leaves command tools.old.devices tools.new.devices }
+    ensures plain { PlainEnds command (texts words.now) result tools.old.devices tools.new.devices }
+    ensures zoned { ZonedEnds command (texts words.now) result (P.Zone.ahead_at tools.old.zone)
+        (known_files (P.System.file_at tools.old.system) (P.System.fault_at tools.old.system))
+        (P.System.place_at tools.old.system) tools.old.devices tools.new.devices }
+
+    // What it starts, and the logs that it keeps.
+    ensures child { ChildEnds command (texts words.now) result (P.System.state tools.old.system)
+        (P.Launcher.calls tools.old.launcher) (P.Launcher.calls tools.new.launcher)
+        tools.old.devices tools.new.devices }
+    ensures logs { LoggerEnds command (texts words.now) result tools.old.store tools.new.store
+        (P.Lines.feed tools.old.lines) (P.Lines.feed tools.new.lines) tools.old.devices tools.new.devices }
+
+    // What it asks of services, and the services that it keeps running.
     ensures services { ServiceEnds command (texts words.now) result
-        (report_files (R.counts_at rt.now) (knowledge (R.texts rt.now) (Z.text_at zone.now))) devices.old devices.new }
-    ensures why { ReasonEnds command (texts words.now) result (knowledge (R.texts rt.now) (Z.text_at zone.now))
-        devices.old devices.new }
-    ensures wait { PacedEnds command (texts words.now) result (T.steps pace.old) (T.steps pace.new)
-        devices.old devices.new }
-    ensures scan { ScanEnds command (texts words.now) result
-        (P.calls service_set.old) (P.calls service_set.new) devices.old devices.new }
+        (knowledge (P.System.trace_at tools.old.system) (P.Zone.text_at tools.old.zone))
+        tools.old.devices tools.new.devices }
+    ensures why { ReasonEnds command (texts words.now) result
+        (knowledge (P.System.trace_at tools.old.system) (P.Zone.text_at tools.old.zone))
+        tools.old.devices tools.new.devices }
+    ensures wait { PacedEnds command (texts words.now) result
+        (P.Pace.steps tools.old.pace) (P.Pace.steps tools.new.pace) tools.old.devices tools.new.devices }
+    ensures scan { ScanEnds command (texts words.now) result (P.ServiceSet.calls tools.old.service_set)
+        (P.ServiceSet.calls tools.new.service_set) tools.old.devices tools.new.devices }
 {
+    let Tools {
+        system,
+        launcher,
+        store,
+        lines,
+        service_set,
+        waiting,
+        pace,
+        zone,
+        devices,
+    } = tools;
     let Devices {
         reader,
         writer,
         faults,
         observer,
     } = devices;
+    let system = &*system;
+    let zone = &*zone;
+    let alloc = system.alloc();
     match command {
-        Command::Sim => return run_sim(rt.alloc(), words, reader, writer, faults),
-        Command::Tai64n => return run_tai64n(words, reader, writer, faults, &mut observer.clock),
-        Command::Tai64nlocal => return run_tai64nlocal(zone, words, reader, writer, faults),
-        Command::Readproctitle => return run_readproctitle(
-            rt.alloc(),
-            words,
-            reader,
-            writer,
-            faults,
-        ),
-        Command::Multilog => {
-            let clock = &mut observer.clock;
-            return run_multilog(rt.alloc(), store, words, lines, faults, clock);
-        }
-        Command::Svc => return run_svc(rt.alloc(), &mut observer.services, words, faults),
+        Command::Sim => run_sim(alloc, words, reader, writer, faults),
+        Command::Tai64n => run_tai64n(words, reader, writer, faults, &mut observer.clock),
+        Command::Tai64nlocal => run_tai64nlocal(zone, words, reader, writer, faults),
+        Command::Readproctitle => run_readproctitle(alloc, words, reader, writer, faults),
+        Command::Multilog => run_multilog(alloc, store, words, lines, faults, &mut observer.clock),
+        Command::Svc => run_svc(alloc, &mut observer.services, words, faults),
         Command::Svstat => {
             let evidence = ServiceEvidence {
-                files: rt,
+                traces: system,
                 times: zone,
             };
-            return run_view(rt.alloc(), observer, rt, &evidence, words, writer, faults);
+            run_view(alloc, observer, &evidence, words, writer, faults)
         }
-        Command::Svok => return run_svok(&mut observer.services, words),
+        Command::Svok => run_svok(&mut observer.services, words),
         Command::Why => {
             let evidence = ServiceEvidence {
-                files: rt,
+                traces: system,
                 times: zone,
             };
-            return run_why(rt.alloc(), observer, &evidence, words, writer, faults);
+            run_why(alloc, observer, &evidence, words, writer, faults)
         }
-        Command::Wait => {
-            let services = &mut observer.services;
-            return run_wait(waiting, rt.alloc(), services, pace, words, faults);
-        }
-        Command::Restart => {
-            let services = &mut observer.services;
-            return run_restart(waiting, rt.alloc(), services, pace, words, faults);
-        }
-        Command::Svscan => return run_svscan(waiting, service_set, words, faults),
-        Command::Supervise => return run_supervise(waiting, service_set, words, faults),
-        Command::Envdir => return run_envdir(rt, launcher, rt.alloc(), words, writer, faults),
-        Command::Trace => return run_trace(rt, rt.alloc(), zone, words, writer, faults),
-        Command::Help => return run_help(words, writer, faults),
-        Command::Version => return run_version(words, writer, faults),
+        Command::Wait => run_wait(waiting, alloc, &mut observer.services, pace, words, faults),
+        Command::Restart => run_restart(
+            waiting,
+            alloc,
+            &mut observer.services,
+            pace,
+            words,
+            faults,
+        ),
+        Command::Svscan => run_svscan(waiting, service_set, words, faults),
+        Command::Supervise => run_supervise(waiting, service_set, words, faults),
+        Command::Envdir => run_envdir(system, launcher, alloc, words, writer, faults),
+        Command::Trace => run_trace(system, alloc, zone, words, writer, faults),
+        Command::Help => run_help(words, writer, faults),
+        Command::Version => run_version(words, writer, faults),
     }
 }
 
@@ -148,69 +134,42 @@ fn refuse_no_command<E: Write>(faults: &mut Output<E>) -> u8
 /// Runs the command that the first word names, over the words after it, and returns its exit status. If there is no
 /// word, or the first one names no command, reports `dtools: usage`, with a line that names `dtools help`, and returns
 /// 100.
-pub fn run<R, L, K, I, S, P, V, T, Z, D, W, E, C>(
-    rt: &R,
-    launcher: &mut L,
-    store: &mut FolderStore<K>,
-    lines: &mut I,
-    service_set: &mut P,
-    waiting: &V,
-    pace: &mut T,
-    zone: &Z,
-    words: &[&str],
-    devices: &mut Devices<D, W, E, S, C>,
-) -> u8
-where
-    R: FileSource + ServicePlaces + EnvSystem + ServiceFiles + CountFiles + AllocGlobal,
-    L: Launcher,
-    K: LogSystem + Drop,
-    I: PartedInput,
-    S: Services,
-    P: ServiceSet,
-    V: Wait,
-    T: Pace,
-    Z: Zone + LocalTimes,
-    D: Read,
-    W: Write,
-    E: Write,
-    C: TimeSource,
-    requires ready { P.ready service_set.old }
-    requires no_logs { store.old.logs ≡ [] }
-    requires no_files { store.old.statuses ≡ [] }
-    ensures leaves { LeftAlone (texts words.now) devices.old devices.new }
-    ensures plain { PlainProgram (texts words.now) result devices.old devices.new }
-    ensures zoned { ZonedProgram (texts words.now) result (Z.ahead_at zone.now)
-        (known_files (R.file_at rt.now) (R.fault_at rt.now)) (R.place_at rt.now) devices.old devices.new }
-    ensures child { ChildProgram (texts words.now) result (R.state rt.now)
-        (L.calls launcher.old) (L.calls launcher.new) devices.old devices.new }
-    ensures logs { LoggerProgram (texts words.now) result store.old store.new
-        (I.feed lines.old) (I.feed lines.new) devices.old devices.new }
+pub fn run<P: Platform>(tools: &mut Tools<P>, words: &[&str]) -> u8
+    requires ready { P.ServiceSet.ready tools.old.service_set }
+    requires no_logs { tools.old.store.logs ≡ [] }
+    requires no_files { tools.old.store.statuses ≡ [] }
+
+    // What the command does with the devices. What it does not get is unchanged.
+    ensures leaves { LeftAlone (texts words.now) tools.old.devices tools.new.devices }
+    ensures plain { PlainProgram (texts words.now) result tools.old.devices tools.new.devices }
+    ensures zoned { ZonedProgram (texts words.now) result (P.Zone.ahead_at tools.old.zone)
+        (known_files (P.System.file_at tools.old.system) (P.System.fault_at tools.old.system))
+        (P.System.place_at tools.old.system) tools.old.devices tools.new.devices }
+
+    // What it starts, and the logs that it keeps.
+    ensures child { ChildProgram (texts words.now) result (P.System.state tools.old.system)
+        (P.Launcher.calls tools.old.launcher) (P.Launcher.calls tools.new.launcher)
+        tools.old.devices tools.new.devices }
+    ensures logs { LoggerProgram (texts words.now) result tools.old.store tools.new.store
+        (P.Lines.feed tools.old.lines) (P.Lines.feed tools.new.lines) tools.old.devices tools.new.devices }
+
+    // What it asks of services, and the services that it keeps running.
     ensures services { ServiceProgram (texts words.now) result
-        (report_files (R.counts_at rt.now) (knowledge (R.texts rt.now) (Z.text_at zone.now))) devices.old devices.new }
-    ensures why { ReasonProgram (texts words.now) result (knowledge (R.texts rt.now) (Z.text_at zone.now))
-        devices.old devices.new }
-    ensures wait { PacedProgram (texts words.now) result (T.steps pace.old) (T.steps pace.new)
-        devices.old devices.new }
-    ensures scan { ScanProgram (texts words.now) result
-        (P.calls service_set.old) (P.calls service_set.new) devices.old devices.new }
+        (knowledge (P.System.trace_at tools.old.system) (P.Zone.text_at tools.old.zone))
+        tools.old.devices tools.new.devices }
+    ensures why { ReasonProgram (texts words.now) result
+        (knowledge (P.System.trace_at tools.old.system) (P.Zone.text_at tools.old.zone))
+        tools.old.devices tools.new.devices }
+    ensures wait { PacedProgram (texts words.now) result
+        (P.Pace.steps tools.old.pace) (P.Pace.steps tools.new.pace) tools.old.devices tools.new.devices }
+    ensures scan { ScanProgram (texts words.now) result (P.ServiceSet.calls tools.old.service_set)
+        (P.ServiceSet.calls tools.new.service_set) tools.old.devices tools.new.devices }
 {
     match words {
         [word, words @ ..] => match Command::named(word) {
-            Some(command) => run_command(
-                rt,
-                launcher,
-                store,
-                lines,
-                service_set,
-                waiting,
-                pace,
-                zone,
-                command,
-                words,
-                devices,
-            ),
-            None => refuse_no_command(&mut devices.faults),
+            Some(command) => run_command(tools, command, words),
+            None => refuse_no_command(&mut tools.devices.faults),
         },
-        [] => refuse_no_command(&mut devices.faults),
+        [] => refuse_no_command(&mut tools.devices.faults),
     }
 }

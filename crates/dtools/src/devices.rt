@@ -1,7 +1,7 @@
 //! What commands read and write.
-use cmd_svc::{Observer, Services};
 use std::io::{Read, Write};
 use std::marker::Model;
+use svc_client::{Observer, Services};
 use tai_status::{Input, Output, TimeSource};
 
 /// What a command reads and writes, the device for reports of its faults, the services that it asks, and its clock. A

@@ -6,6 +6,7 @@ ghost use Rattle.cmd_svscan.specs.Requests.{IsReplyTo};
 
 mod command;
 mod devices;
+mod tools;
 mod words;
 
 use cmd_base::{REFUSED, SystemClock, TROUBLE, report, report_device};
@@ -15,20 +16,65 @@ use cmd_local::{LocalZone, system_zone};
 use cmd_multilog::{
     FolderStore, LineClock, LineLabels, Stoppable, SystemInput, SystemLogs, stop_channel,
 };
-use cmd_svc::{ListedLine, Observer, Services, SystemServices, is_colored, run_svstat_as, widest};
+use cmd_svc::{ListedLine, is_colored, run_svstat_as, widest};
 use cmd_svscan::{FolderServices, Reply, Request, ServiceSet, SystemHost, handle};
 use cmd_wait::SystemPace;
 use command::run;
 use devices::Devices;
-use mlog_core::PartedInput;
 use std::alloc::AllocError;
 use std::env;
 use std::env::{Env, FillError};
-use std::io::{IsTerminal, Read, Write};
+use std::io::{IsTerminal, Stderr, Stdin, Stdout, Write};
+use std::marker::PhantomData;
 use std::process::ExitCode;
 use std::sync::Wait;
-use tai_status::{Counted, Output, TimeSource};
+use svc_client::{Observer, SystemServices};
+use tai_status::{Counted, Output};
+use tools::{Platform, Tools};
 use words::{WordsFault, listed_words};
+
+/// The input of a logger on this system.
+type SystemLines<'l> = Stoppable<SystemInput<'l, Stdin, SystemClock<HostRuntime>>>;
+
+/// What commands read and write on this system.
+type SystemDevices<'l> = Devices<
+    Stdin,
+    Stdout,
+    Stderr,
+    SystemServices<HostRuntime>,
+    LineClock<'l, SystemClock<HostRuntime>>,
+>;
+
+/// This system, with what waits for its threads, and with the services of a folder.
+struct ThisSystem<'l, V, P>(PhantomData<&'l LineLabels>, PhantomData<V>, PhantomData<P>);
+
+impl<'l, V: Wait + Drop, P: ServiceSet + Drop> Platform for ThisSystem<'l, V, P> {
+    type System = HostRuntime;
+
+    type Launcher = SystemLauncher<HostRuntime>;
+
+    type Logs = SystemLogs<HostRuntime, Stderr>;
+
+    type Lines = SystemLines<'l>;
+
+    type ServiceSet = P;
+
+    type Waiting = V;
+
+    type Pace = SystemPace<HostRuntime>;
+
+    type Zone = LocalZone;
+
+    type Reader = Stdin;
+
+    type Writer = Stdout;
+
+    type Faults = Stderr;
+
+    type Services = SystemServices<HostRuntime>;
+
+    type Clock = LineClock<'l, SystemClock<HostRuntime>>;
+}
 
 fn main(rt: HostRuntime) -> ExitCode {
     let labels = LineLabels::new();
@@ -38,8 +84,7 @@ fn main(rt: HostRuntime) -> ExitCode {
         SystemClock::new(rt),
         &labels,
     );
-    let mut lines = Stoppable::new(input);
-    let mut devices = Devices {
+    let devices = Devices {
         reader: Counted::new(rt.stdin()),
         writer: Counted::new(rt.stdout()),
         faults: Counted::new(rt.stderr()),
@@ -53,8 +98,8 @@ fn main(rt: HostRuntime) -> ExitCode {
     let handling = |request: Request| -> Reply
         ensures { IsReplyTo request result }
     { handle(rt, rt, alloc, &mut host, request) };
-    let mut service_set = FolderServices::new(alloc, handling);
-    ExitCode::from(run_arguments(&rt, &rt, &mut lines, &mut service_set, &mut devices))
+    let service_set = FolderServices::new(alloc, handling);
+    ExitCode::from(run_arguments(rt, rt, Stoppable::new(input), service_set, devices))
 }
 
 /// Returns the channel through which a logger is asked to stop or to rotate, if the command is a logger and there is a
@@ -67,25 +112,16 @@ fn logger_channel(rt: &HostRuntime) -> Option<i32> {
 }
 
 /// Runs the program's words, without its own name.
-fn run_arguments<V, I, P, D, W, E, S, C>(
-    rt: &HostRuntime,
-    waiting: &V,
-    lines: &mut I,
-    service_set: &mut P,
-    devices: &mut Devices<D, W, E, S, C>,
+fn run_arguments<'l, V: Wait + Drop, P: ServiceSet + Drop>(
+    rt: HostRuntime,
+    waiting: V,
+    lines: SystemLines<'l>,
+    service_set: P,
+    mut devices: SystemDevices<'l>,
 ) -> u8
-where
-    V: Wait,
-    I: PartedInput,
-    P: ServiceSet,
-    D: Read,
-    W: Write,
-    E: Write,
-    S: Services,
-    C: TimeSource,
-    requires { P.ready service_set.old }
+    requires { P.ready service_set }
 {
-    let program = match listed_words(rt) {
+    let program = match listed_words(&rt) {
         Ok(program) => program,
         Err(fault) => return refuse_words(&fault, &mut devices.faults),
     };
@@ -97,7 +133,7 @@ where
     }
     if program.is_list {
         if let [_, services @ ..] = &words[..] {
-            return show_list(rt, services, devices);
+            return show_list(&rt, services, &mut devices);
         }
     }
     match page_asked(&words) {
@@ -107,11 +143,7 @@ where
 }
 
 /// Shows all services of a folder, for people: with the states in one column, and in color on a terminal.
-fn show_list<D: Read, W: Write, E: Write, S: Services, C: TimeSource>(
-    rt: &HostRuntime,
-    services: &[&str],
-    devices: &mut Devices<D, W, E, S, C>,
-) -> u8 {
+fn show_list(rt: &HostRuntime, services: &[&str], devices: &mut SystemDevices<'_>) -> u8 {
     let unset = matches!(
         rt.var("NO_COLOR", &mut [0; 8]),
         Ok(0) | Err(FillError::NotPresent)
@@ -130,42 +162,35 @@ fn show_list<D: Read, W: Write, E: Write, S: Services, C: TimeSource>(
 }
 
 /// Runs these words.
-fn run_words<V, I, P, D, W, E, S, C>(
-    rt: &HostRuntime,
-    waiting: &V,
-    lines: &mut I,
-    service_set: &mut P,
+fn run_words<'l, V: Wait + Drop, P: ServiceSet + Drop>(
+    rt: HostRuntime,
+    waiting: V,
+    lines: SystemLines<'l>,
+    service_set: P,
     words: &[&str],
-    devices: &mut Devices<D, W, E, S, C>,
+    mut devices: SystemDevices<'l>,
 ) -> u8
-where
-    V: Wait,
-    I: PartedInput,
-    P: ServiceSet,
-    D: Read,
-    W: Write,
-    E: Write,
-    S: Services,
-    C: TimeSource,
-    requires { P.ready service_set.old }
+    requires { P.ready service_set }
 {
-    let Ok(zone) = zone_for(rt, words) else {
+    let Ok(zone) = zone_for(&rt, words) else {
         return refuse_words(&WordsFault::OutOfMemory, &mut devices.faults);
     };
     let system = SystemLogs::new(rt, rt.stderr(), rt.alloc());
     match FolderStore::new(system, rt.alloc()) {
-        Ok(mut store) => run(
-            rt,
-            &mut SystemLauncher::new(rt),
-            &mut store,
-            lines,
-            service_set,
-            waiting,
-            &mut SystemPace::new(rt),
-            &zone,
-            words,
-            devices,
-        ),
+        Ok(store) => {
+            let mut tools = Tools::<ThisSystem<'l, V, P>> {
+                system: rt,
+                launcher: SystemLauncher::new(rt),
+                store,
+                lines,
+                service_set,
+                waiting,
+                pace: SystemPace::new(rt),
+                zone,
+                devices,
+            };
+            run(&mut tools, words)
+        }
         Err(_) => refuse_words(&WordsFault::OutOfMemory, &mut devices.faults),
     }
 }

@@ -12,7 +12,7 @@ use std::alloc::{AllocError, Allocator, Global};
 use std::marker::Model;
 
 /// How many bytes of a front are noted in about the time that a pattern takes.
-const BYTES_A_TRY: usize = 11;
+const BYTES_A_TRY: usize = 13;
 
 /// The alerts, logs and status files of a script at which a line is selected. Contracts see a list of flags for each
 /// kind.

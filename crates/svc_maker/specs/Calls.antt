@@ -3,8 +3,10 @@ use Rattle.std.specs.Prelude.{ℕ, Bool, List, Option, Result}
 use Rattle.std.specs.Borrow.{Bor}
 use Rattle.std.specs.Option.{option_copied, option_map}
 use Rattle.std.specs.Result.{result_err}
+use Rattle.std.specs.declared.alloc.Global.{Global}
 use Rattle.std.specs.declared.io.PipeReader.{PipeReader}
 use Rattle.std.specs.declared.fs.File.{File}
+use Rattle.std.specs.declared.sync.Arc.{Arc}
 use Rattle.tai_status.specs.declared.cause.Cause.{Cause}
 use Rattle.scan_table.specs.Slots.{Row}
 use Rattle.svc_world.specs.declared.output.OutputEnds.{OutputEnds}
@@ -38,12 +40,12 @@ use Rattle.svc_maker.specs.declared.part_system.NotAdmitted.{NotAdmitted}
 pub data Call : Type 0 where
   Allowed : (descriptors : ℕ) → Call
   Prepared : (folder : List ℕ) → (rows : List Row) → Call
-  MadePipe : (ends : Result (PipeReader × LoggerInput) Cause) → Call
+  MadePipe : (ends : Result (Arc PipeReader Global × LoggerInput) Cause) → Call
   OpenedOutput : (path : List ℕ) → (ends : Result OutputEnds FolderFault) → Call
   Opened : (path : List ℕ) → (fault : Option FolderFault) → Call
   FoundLeft : (path : List ℕ) → (left : Left) → Call
-  MadeWorld : (path name : List ℕ) → (left : Left) → (input : Option PipeReader) → (output : Option File)
-      → (fault : Option Cause) → Call
+  MadeWorld : (path name : List ℕ) → (left : Left) → (input : Option (Arc PipeReader Global))
+      → (output : Option (Arc File Global)) → (fault : Option Cause) → Call
   Admitted : (number : ℕ) → (path : List ℕ) → (fault : Option Cause) → Call
   Dismissed : (number : ℕ) → (path : List ℕ) → Call
   KeptTrace : (path : List ℕ) → (text : List ℕ) → (kept : Bool) → Call
@@ -56,8 +58,8 @@ pub data Call : Type 0 where
   Drained : (input : PipeReader) → (bytes : ℕ) → Call
 
 -- the call for a world, with copies of these ends of pipes
-abbrev pub world_call : {A : Type 0} → (path name : List ℕ) (left : Left) (input : Option (Bor PipeReader))
-    (output : Option (Bor File)) (made : Result A Cause) → Call
+abbrev pub world_call : {A : Type 0} → (path name : List ℕ) (left : Left)
+    (input : Option (Bor (Arc PipeReader Global))) (output : Option (Bor (Arc File Global))) (made : Result A Cause) → Call
 world_call path name left input output made =
     MadeWorld path name left (option_copied input) (option_copied output) (result_err made)
 

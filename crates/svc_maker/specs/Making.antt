@@ -5,8 +5,10 @@ use Rattle.std.specs.Prelude.{MatchResult, option_map}
 use Rattle.std.specs.Result.{result_err, result_ok}
 use Rattle.std.specs.Arc.{arc_value}
 use Rattle.std.specs.List.{All}
+use Rattle.std.specs.declared.alloc.Global.{Global}
 use Rattle.std.specs.declared.io.PipeReader.{PipeReader}
 use Rattle.std.specs.declared.fs.File.{File}
+use Rattle.std.specs.declared.sync.Arc.{Arc}
 use Rattle.scan_table.specs.declared.part.PartId.{PartId}
 use Rattle.scan_table.specs.declared.part.Role.{Role}
 use Rattle.scan_table.specs.declared.part.Role.TheVariants.{Main, Log}
@@ -77,8 +79,8 @@ part_path folder name role = folder ++ (47 ∷ part_name name role)
 pub record Plan : Type 0 where
   pub path : List ℕ
   pub name : List ℕ
-  pub input : Option PipeReader
-  pub output : Option File
+  pub input : Option (Arc PipeReader Global)
+  pub output : Option (Arc File Global)
 
 -- the children of a part have the pipes of its slot
 abbrev pub plan_at : (path name : List ℕ) → PartId → List PairPipes → Plan
@@ -149,7 +151,7 @@ pub record SetsUp (name : List ℕ) (part : PartId) (fault : Option MakeFault) (
 pub record JoinsPair (name : List ℕ) (slot : ℕ) (read : ServiceOutput) (outlets : PairOutlets) (old new : Making)
     : Type 0 where
   pub ends : OutputEnds
-  pub input : PipeReader
+  pub input : Arc PipeReader Global
   pub written : LoggerInput
   pub reads : read ≡ ends.read
   pub outlet : outlets.outlet ≡ Some written
@@ -282,7 +284,7 @@ EndsOutput slot at_once old new = MatchOption (pipes_of slot old.pipes) (new ≡
 -- yes.
 abbrev pub LooksAtInput : (slot : ℕ) (is_read : Bool) (old new : Making) → Type 0
 LooksAtInput slot is_read old new = MatchOption (pipes_of slot old.pipes) ((new ≡ old) × (is_read ≡ true)) (λ pair.
-    Asks (LookedAtInput pair.input is_read ∷ []) old new)
+    Asks (LookedAtInput (arc_value pair.input) is_read ∷ []) old new)
 
 -- What is lost between an output and its logger. If no logger reads its input, what is in the input counts too: the
 -- input is read to its end before the rest is counted.
@@ -290,7 +292,7 @@ abbrev pub CountsLost : (has_logger : Bool) (pair : PairPipes) (lost : ℕ) (old
 CountsLost true pair lost old new = Asks (CountedBetween (arc_value pair.flow) lost ∷ []) old new
 CountsLost false pair lost old new =
     (unread between : ℕ) × (lost ≡ min (between + unread) (2 ^ 64 - 1))
-    × Asks (Drained pair.input unread ∷ CountedBetween (arc_value pair.flow) between ∷ []) old new
+    × Asks (Drained (arc_value pair.input) unread ∷ CountedBetween (arc_value pair.flow) between ∷ []) old new
 
 -- For a slot without pipes, nothing is lost.
 abbrev pub Loses : (slot : ℕ) (has_logger : Bool) (lost : ℕ) (old new : Making) → Type 0

@@ -50,7 +50,10 @@ pub trait PartSystem {
         ensures calls { MadeWhileKept calls (Prepared folder.now rows.now) self.old self.new };
 
     /// Makes a pipe for the input of a logger. The flow counts what the pipe takes. A fault says why it can't be made.
-    fn pipe(&mut self, flow: &Arc<Flow, Global>) -> Result<(PipeReader, LoggerInput), Cause>
+    fn pipe(
+        &mut self,
+        flow: &Arc<Flow, Global>,
+    ) -> Result<(Arc<PipeReader, Global>, LoggerInput), Cause>
         ensures calls { MadeWhileKept calls (MadePipe result) self.old self.new };
 
     /// Opens the output of the service in the folder at a path. A fault says why that can't be done in this round.
@@ -86,15 +89,15 @@ pub trait PartSystem {
 
     /// Makes the world of the service in a folder in which this was left, and the reaper of its processes. A fault says
     /// why they can't be made. A process that is still alive is adopted. Each child gets copies of these ends of pipes
-    /// as standard input and output, and svscan's own if there is none. The notifier is notified if there is news.
+    /// as standard input and output, and svscan's own if there is none. The ends are shared. The notifier is notified if there is news.
     /// Messages about the service use this name.
     fn world(
         &mut self,
         folder: &Self::Folder,
         name: &str,
         left: &Left,
-        input: Option<&PipeReader>,
-        output: Option<&File>,
+        input: Option<&Arc<PipeReader, Global>>,
+        output: Option<&Arc<File, Global>>,
         notifier: Arc<Notifier, Global>,
     ) -> Result<(Self::World, Self::Reaper), Cause>
         ensures calls { MadeWhileKept calls (world_call (Self.Folder.path folder.now) name.now left.now

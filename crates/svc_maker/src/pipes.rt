@@ -21,9 +21,9 @@ use tai_status::{Counted, Output};
 pub(crate) struct PairPipes {
     pub(crate) slot: u64,
     /// The standard output of the service.
-    pub(crate) output: File,
+    pub(crate) output: Arc<File, Global>,
     /// The standard input of its logger.
-    pub(crate) input: PipeReader,
+    pub(crate) input: Arc<PipeReader, Global>,
     /// The counts of what flows between them.
     pub(crate) flow: Arc<Flow, Global>,
 }
@@ -71,7 +71,7 @@ pub(crate) fn leave_pipes(pipes: &mut Vec<PairPipes>, slot: u64)
 }
 
 /// Returns the standard input of a part's children. None means svscan's own.
-pub(crate) fn input_of(pair: Option<&PairPipes>, role: Role) -> Option<&PipeReader>
+pub(crate) fn input_of(pair: Option<&PairPipes>, role: Role) -> Option<&Arc<PipeReader, Global>>
     ensures { option_copied result ≡ input_of role (option_copied pair.entry) }
 {
     match (role, pair) {
@@ -81,7 +81,7 @@ pub(crate) fn input_of(pair: Option<&PairPipes>, role: Role) -> Option<&PipeRead
 }
 
 /// Returns the standard output of a part's children. None means svscan's own.
-pub(crate) fn output_of(pair: Option<&PairPipes>, role: Role) -> Option<&File>
+pub(crate) fn output_of(pair: Option<&PairPipes>, role: Role) -> Option<&Arc<File, Global>>
     ensures { option_copied result ≡ output_of role (option_copied pair.entry) }
 {
     match (role, pair) {

@@ -137,6 +137,12 @@ where
         }
     }
 
+    // Makes a pipe. The reading end will be shared by the children of a logger.
+    fn logger_pipe(&self) -> io::Result<(Arc<PipeReader, Global>, PipeWriter)> {
+        let (reader, writer) = io::pipe(&self.runtime)?;
+        Ok((Arc::new(self.alloc, reader)?, writer))
+    }
+
     // Prepares the outputs of the services of rows that have loggers.
     fn try_prepare(&self, folder: &str, rows: &[DirRow]) -> io::Result<()> {
         let mut folders = Vec::new(self.alloc);
@@ -177,14 +183,17 @@ where
     }
 }
 
-/// Returns copies of ends of pipes, as the standard streams of children.
-fn copies(input: Option<&PipeReader>, output: Option<&File>) -> io::Result<Streams> {
+/// Returns ends of pipes as the standard streams of children. They are shared with the pair.
+fn shared(
+    input: Option<&Arc<PipeReader, Global>>,
+    output: Option<&Arc<File, Global>>,
+) -> Result<Streams, AllocError> {
     let input = match input {
-        Some(end) => Some(end.try_clone()?),
+        Some(end) => Some(Arc::try_clone(end)?),
         None => None,
     };
     let output = match output {
-        Some(end) => Some(end.try_clone()?),
+        Some(end) => Some(Arc::try_clone(end)?),
         None => None,
     };
     Ok(Streams { input, output })
@@ -211,9 +220,12 @@ where
         let _ = self.try_prepare(folder, rows);
     }
 
-    fn pipe(&mut self, flow: &Arc<Flow, Global>) -> Result<(PipeReader, LoggerInput), Cause> {
+    fn pipe(
+        &mut self,
+        flow: &Arc<Flow, Global>,
+    ) -> Result<(Arc<PipeReader, Global>, LoggerInput), Cause> {
         let flow = Arc::try_clone(flow)?;
-        let (reader, writer) = io::pipe(&self.runtime)?;
+        let (reader, writer) = self.logger_pipe()?;
         Ok((reader, LoggerInput::new(writer, flow)))
     }
 
@@ -263,11 +275,11 @@ where
         folder: &OpenFolder,
         name: &str,
         left: &Left,
-        input: Option<&PipeReader>,
-        output: Option<&File>,
+        input: Option<&Arc<PipeReader, Global>>,
+        output: Option<&Arc<File, Global>>,
         notifier: Arc<Notifier, Global>,
     ) -> Result<(Box<ChildWorld<SystemChildren<R>>>, PartReaper), Cause> {
-        let streams = copies(input, output)?;
+        let streams = shared(input, output)?;
         let _ = folder.folder.remove_earlier();
         let (mut children, reaper) = self.children(folder, name, streams, notifier)?;
         let own = &self.shared.own;

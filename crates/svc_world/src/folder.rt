@@ -193,6 +193,19 @@ pub(crate) fn open_lock<R: Files<File = File>>(runtime: &R, path: &str) -> io::R
     Ok(file)
 }
 
+/// Makes a file, for its owner alone. Removes any file of that name first, and follows no link.
+fn make_anew<R: Files<File = File>>(runtime: &R, path: &str) -> io::Result<File> {
+    let mut how = OpenOptions::new();
+    how.write(true).create_new(true).mode(FILE_MODE);
+    match how.open(runtime, path) {
+        Err(fault) if fault.kind() == ErrorKind::AlreadyExists => {
+            remove(runtime, path)?;
+            how.open(runtime, path)
+        }
+        made => made,
+    }
+}
+
 /// Makes a file with this content, for its owner alone or with this access. Removes any file of that name first, and
 /// follows no link.
 #[inline(never)]
@@ -202,10 +215,7 @@ fn write_private<R: Files<File = File>>(
     content: &[u8],
     access: Option<Access>,
 ) -> io::Result<()> {
-    remove(runtime, path)?;
-    let mut how = OpenOptions::new();
-    how.write(true).create_new(true).mode(FILE_MODE);
-    let mut file = how.open(runtime, path)?;
+    let mut file = make_anew(runtime, path)?;
     file.set_permissions(Permissions::from_mode(FILE_MODE))?;
     if let Some(access) = access {
         // If it can't be given away, it is for its owner alone.

@@ -26,7 +26,7 @@ use tai_status::Cause;
 #[derive(Drop)]
 pub struct OutputEnds {
     pub read: ServiceOutput,
-    pub write: File,
+    pub write: Arc<File, Global>,
     pub flow: Arc<Flow, Global>,
 }
 
@@ -248,7 +248,7 @@ fn ends_of(
     let flow = Arc::new(alloc, Flow::new())?;
     Ok(OutputEnds {
         read: ServiceOutput::new(read, Arc::try_clone(watch)?, Arc::try_clone(&flow)?),
-        write,
+        write: Arc::new(alloc, write)?,
         flow,
     })
 }

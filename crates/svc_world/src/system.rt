@@ -37,14 +37,14 @@ use svc_house::Notifier;
 use svc_left::{Leftover, Place};
 use tai_status::{Cause, Label, TimeSource};
 
-/// The standard input and output of a service's children, of each one after the other. A child inherits from this
-/// process what is None here.
+/// The standard input and output of a service's children, of each one after the other. They are shared, so that this
+/// process has one descriptor for each. A child inherits from this process what is None here.
 #[derive(Drop)]
 pub struct Streams {
     /// Standard input.
-    pub input: Option<PipeReader>,
+    pub input: Option<Arc<PipeReader, Global>>,
     /// Standard output.
-    pub output: Option<File>,
+    pub output: Option<Arc<File, Global>>,
 }
 
 /// Where the death of a service's process is found.

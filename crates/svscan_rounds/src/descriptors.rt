@@ -12,9 +12,9 @@ const OWN: u64 = 24;
 /// The descriptors of a service: its folder, its lock and two sockets.
 const SERVICE: u64 = 4;
 
-/// The descriptors of a service with a logger: twice as many, two ends each for the output of the service and the input
-/// of the logger, and one more copy for each of the two.
-const PAIR: u64 = 14;
+/// The descriptors of a service with a logger: twice as many, and two ends each for the output of the service and the input
+/// of the logger.
+const PAIR: u64 = 12;
 
 /// Returns how many descriptors the service of a row needs.
 fn descriptors_of(row: &DirRow) -> u64

@@ -1,7 +1,7 @@
 use Rattle.std.proofs.Common.{rules, ◌≡◌, ◌+◌, ◌<◌, ◌++◌, ◌∷◌, ℕ, List, [], take, drop, map, length, get_or, sym, ap}
 use Rattle.std.proofs.Common.{◌∙◌, subst, append_assoc, Bor}
-use Rattle.cmd_svc.proofs.Turns.{taken-one, parts-at}
-use Rattle.cmd_report.specs.Finds.{report_files, FindsFront}
+use Rattle.svc_client.proofs.Turns.{taken-one, parts-at}
+use Rattle.cmd_report.specs.Finds.{FindsFront}
 use Rattle.cmd_report.proofs.Finds.{finds_words-then}
 use Rattle.cmd_page.specs.PageEnds.{AddsRows, founds_of}
 use Rattle.cmd_page.proofs.Grown.{adds_rows-then}
@@ -17,16 +17,15 @@ returns-in_err-add_row-clause-err g c =
     let i = c.loop-folder.folder-index in
     let now : Bor (List ℕ) → List ℕ = λ word. word.now in
     let within : i < length folders = search rules in
-    let all_files = report_files (g.F.CountFiles.counts_at c.args.counts.now) (g.K.Evidence.known c.args.sources.now) in
     let folder = now (get_or folders i nowhere) in
     let found = c.find_one-found.result in
     let same : found.folder.now ≡ folder = search rules in
     let done = c.loop-folder.invariant in
     let rest = map now (drop (i + 1) folders) in
-    let all = finds_words-then all_files (map now (take i folders)) (founds_of done.rows) folder found
+    let all = finds_words-then (map now (take i folders)) (founds_of done.rows) folder found
     c.args.observer.now c.loop-folder.observer c.find_one-found.new.observer done.finds same
     c.find_one-found.ensures.finds in
-    let front : FindsFront all_files (map now folders) c.args.observer.now c.find_one-found.new.observer = record {
+    let front : FindsFront (map now folders) c.args.observer.now c.find_one-found.new.observer = record {
       founds = founds_of done.rows ++ found ∷ [];
       rest = rest;
       words_are = parts-at now folders i nowhere within
@@ -43,14 +42,14 @@ loop-folder-preserved g c =
     let i = c.loop-folder.folder-index in
     let now : Bor (List ℕ) → List ℕ = λ word. word.now in
     let within : i < length folders = search rules in
-    let all_files = report_files (g.F.CountFiles.counts_at c.args.counts.now) (g.K.Evidence.known c.args.sources.now) in
+    let known = g.K.Evidence.known c.args.sources.now in
     let folder = now (get_or folders i nowhere) in
     let found = c.find_one-found.result in
     let same : found.folder.now ≡ folder = search rules in
-    subst (λ (words : List (List ℕ)). AddsRows all_files c.args.now.now words c.args.observer.now
+    subst (λ (words : List (List ℕ)). AddsRows known c.args.now.now words c.args.observer.now
     c.find_one-found.new.observer c.args.page.now.items c.add_row.new.page.items)
     (sym (taken-one now folders i nowhere within))
-    (adds_rows-then all_files c.args.now.now (map now (take i folders)) folder c.args.observer.now
+    (adds_rows-then known c.args.now.now (map now (take i folders)) folder c.args.observer.now
     c.loop-folder.observer c.find_one-found.new.observer c.args.page.now.items c.loop-folder.page.items
     c.add_row.new.page.items found c.loop-folder.invariant c.find_one-found.ensures.finds same
     c.in_ok-add_row.ensures)

@@ -1,8 +1,8 @@
 use Rattle.std.proofs.Common.{rules, ◌≡◌, ◌+◌, ◌<◌, ◌++◌, ◌∷◌, ℕ, List, [], take, drop, map, length, get_or, sym, ap}
 use Rattle.std.proofs.Common.{◌∙◌, subst, append_assoc, Bor}
-use Rattle.cmd_svc.proofs.Turns.{taken-one, parts-at}
+use Rattle.svc_client.proofs.Turns.{taken-one, parts-at}
 use Rattle.cmd_report.specs.declared.found.Found.{Found}
-use Rattle.cmd_report.specs.Finds.{report_files, FindsWords}
+use Rattle.cmd_report.specs.Finds.{FindsWords}
 use Rattle.cmd_report.proofs.Finds.{finds_words-then}
 use Rattle.cmd_report.proofs.find.find_all.Goals as goal
 
@@ -16,7 +16,6 @@ returns-then-is_err-clause-err g c =
     let i = c.loop-folder.folder-index in
     let now : Bor (List ℕ) → List ℕ = λ word. word.now in
     let within : i < length folders = search rules in
-    let all_files = report_files (g.F.CountFiles.counts_at c.args.counts.now) (g.K.Evidence.known c.args.sources.now) in
     let folder = now (get_or folders i nowhere) in
     let found = c.find_one-found.result in
     let same : found.folder.now ≡ folder = search rules in
@@ -24,7 +23,7 @@ returns-then-is_err-clause-err g c =
     let middle = c.loop-folder.observer in
     let new = c.find_one-found.new.observer in
     let rest = map now (drop (i + 1) folders) in
-    let all = finds_words-then all_files (map now (take i folders)) c.loop-folder.founds.items folder found old middle new
+    let all = finds_words-then (map now (take i folders)) c.loop-folder.founds.items folder found old middle new
     c.loop-folder.invariant same c.find_one-found.ensures.finds in
     record {
       founds = c.loop-folder.founds.items ++ found ∷ [];
@@ -42,16 +41,15 @@ loop-folder-preserved g c =
     let i = c.loop-folder.folder-index in
     let now : Bor (List ℕ) → List ℕ = λ word. word.now in
     let within : i < length folders = search rules in
-    let all_files = report_files (g.F.CountFiles.counts_at c.args.counts.now) (g.K.Evidence.known c.args.sources.now) in
     let folder = now (get_or folders i nowhere) in
     let found = c.find_one-found.result in
     let same : found.folder.now ≡ folder = search rules in
     let old = c.args.observer.now in
     let middle = c.loop-folder.observer in
     let new = c.find_one-found.new.observer in
-    let all = finds_words-then all_files (map now (take i folders)) c.loop-folder.founds.items folder found old middle new
+    let all = finds_words-then (map now (take i folders)) c.loop-folder.founds.items folder found old middle new
     c.loop-folder.invariant same c.find_one-found.ensures.finds in
     let pushed : c.push.new.self.items ≡ c.loop-folder.founds.items ++ found ∷ [] = search rules in
-    subst (λ (items : List Found). FindsWords all_files (map now (take (i + 1) folders)) items old new) (sym pushed)
-    (subst (λ (words : List (List ℕ)). FindsWords all_files words (c.loop-folder.founds.items ++ found ∷ []) old new)
+    subst (λ (items : List Found). FindsWords (map now (take (i + 1) folders)) items old new) (sym pushed)
+    (subst (λ (words : List (List ℕ)). FindsWords words (c.loop-folder.founds.items ++ found ∷ []) old new)
     (sym (taken-one now folders i nowhere within)) all)

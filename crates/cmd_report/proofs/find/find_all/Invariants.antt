@@ -1,9 +1,9 @@
 use Rattle.std.proofs.Common.{take, map}
-use Rattle.cmd_report.specs.Finds.{report_files, FindsWords}
+use Rattle.cmd_report.specs.Finds.{FindsWords}
 use Rattle.cmd_report.proofs.find.find_all.Given as goal
 
 -- the services so far are found
 abbrev pub invariant-loop-folder : goal.invariant-loop-folder
 invariant-loop-folder g l =
-    FindsWords (report_files (g.F.CountFiles.counts_at l.counts) (g.K.Evidence.known l.sources)) (map (λ word. word.now) (take l.folder-index l.folders))
+    FindsWords (map (λ word. word.now) (take l.folder-index l.folders))
     l.founds.items l.fn.observer l.observer

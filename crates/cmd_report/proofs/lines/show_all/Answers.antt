@@ -1,9 +1,8 @@
 use Rattle.std.proofs.Common.{rules, ◌+◌, ◌<◌, ℕ, List, [], take, drop, map, length, get_or, sym, subst, Bor}
-use Rattle.cmd_svc.specs.Turns.{InTurn}
+use Rattle.svc_client.specs.Turns.{InTurn}
 use Rattle.cmd_svc.specs.Svstat.{scene}
-use Rattle.cmd_report.specs.Finds.{report_files}
 use Rattle.cmd_report.specs.JsonEnds.{Shows, ShowsUpTo}
-use Rattle.cmd_svc.proofs.Turns.{in_turn-then, taken-one, parts-at}
+use Rattle.svc_client.proofs.Turns.{in_turn-then, taken-one, parts-at}
 use Rattle.cmd_report.proofs.lines.show_all.Goals as goal
 
 nowhere : Bor (List ℕ)
@@ -18,8 +17,7 @@ returns-in_err-show-clause-err g c =
     let within : i < length folders = search rules in
     let old = scene c.args.observer.now c.args.writer.now in
     let new = scene c.show.new.observer c.show.new.writer in
-    let files = report_files (g.F.CountFiles.counts_at c.args.counts.now) (g.K.Evidence.known c.args.sources.now) in
-    let stops : ShowsUpTo files (map now folders) old new c.in_err-show.field-0.0 = record {
+    let stops : ShowsUpTo (map now folders) old new c.in_err-show.field-0.0 = record {
       before = map now (take i folders);
       folder = now (get_or folders i nowhere);
       after = map now (drop (i + 1) folders);
@@ -40,7 +38,7 @@ loop-folder-preserved g c =
     let old = scene c.args.observer.now c.args.writer.now in
     let middle = scene c.loop-folder.observer c.loop-folder.writer in
     let new = scene c.show.new.observer c.show.new.writer in
-    let shows = Shows (report_files (g.F.CountFiles.counts_at c.args.counts.now) (g.K.Evidence.known c.args.sources.now)) in
+    let shows = Shows in
     subst (λ (done : List (List ℕ)). InTurn shows done old new) (sym (taken-one now folders i nowhere within))
     (in_turn-then shows (map now (take i folders)) (now (get_or folders i nowhere)) old middle new
     c.loop-folder.invariant

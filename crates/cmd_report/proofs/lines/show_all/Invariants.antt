@@ -1,12 +1,11 @@
 use Rattle.std.proofs.Common.{take, map}
-use Rattle.cmd_svc.specs.Turns.{InTurn}
+use Rattle.svc_client.specs.Turns.{InTurn}
 use Rattle.cmd_svc.specs.Svstat.{scene}
-use Rattle.cmd_report.specs.Finds.{report_files}
 use Rattle.cmd_report.specs.JsonEnds.{Shows}
 use Rattle.cmd_report.proofs.lines.show_all.Given as goal
 
 -- the services so far are shown
 abbrev pub invariant-loop-folder : goal.invariant-loop-folder
 invariant-loop-folder g l =
-    InTurn (Shows (report_files (g.F.CountFiles.counts_at l.counts) (g.K.Evidence.known l.sources))) (map (λ word. word.now) (take l.folder-index l.folders))
+    InTurn Shows (map (λ word. word.now) (take l.folder-index l.folders))
     (scene l.fn.observer l.fn.writer) (scene l.observer l.writer)

@@ -1,8 +1,8 @@
 use Rattle.std.proofs.Common.{rules, ◌≡◌, [], ◌∷◌, Bool, not, Some, None, Ok, subst}
 use Rattle.tai_status.specs.Loading.{loaded_from}
-use Rattle.cmd_svc.specs.Calls.{Reached, ReadStatus, SoughtDown}
+use Rattle.svc_client.specs.Calls.{Reached, ReadStatus, SoughtDown}
 use Rattle.tai_status.specs.Extended.{Extended}
-use Rattle.cmd_svc.proofs.Turns.{extended-then, not-not}
+use Rattle.svc_client.proofs.Turns.{extended-then, not-not}
 use Rattle.cmd_svc.proofs.look.look_at.Goals as goal
 
 pub returns-in-Ok-decode_front : goal.returns-in-Ok-decode_front

@@ -1,6 +1,6 @@
 use Rattle.std.proofs.Common.{rules, ◌<◌, ℕ, List, [], take, map, length, get_or, sym, subst, Bor}
 use Rattle.cmd_svc.specs.Missing.{TellsEach, TellsMissing, telling}
-use Rattle.cmd_svc.proofs.Turns.{in_turn-then, taken-one}
+use Rattle.svc_client.proofs.Turns.{in_turn-then, taken-one}
 use Rattle.cmd_svc.proofs.missing.tell_missing.Goals as goal
 
 nowhere : Bor (List ℕ)

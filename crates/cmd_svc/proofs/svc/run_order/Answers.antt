@@ -3,7 +3,7 @@ use Rattle.std.specs.Prelude.{codes}
 use Rattle.cmd_svc.specs.Words.{texts, option_letters, first_unknown}
 use Rattle.cmd_svc.specs.Words.{order_bytes, service_words}
 use Rattle.cmd_svc.specs.Missing.{TellsEach, telling}
-use Rattle.cmd_svc.specs.Turns.{InTurn}
+use Rattle.svc_client.specs.Turns.{InTurn}
 use Rattle.cmd_svc.specs.Svc.{effects, sending, RefusesLetter, Serves, ServesWords, LacksMemory, svc_warning}
 use Rattle.cmd_svc.proofs.Refusals.{letter-refused, memory-lacks, order-serves}
 use Rattle.cmd_svc.proofs.svc.run_order.Goals as goal

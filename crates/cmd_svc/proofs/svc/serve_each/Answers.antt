@@ -1,8 +1,8 @@
 use Rattle.std.proofs.Common.{rules, ◌≡◌, ◌∙◌, ◌+◌, ◌<◌, ℕ, List, [], ◌∷◌, ◌++◌, take, length, ap, sym, subst, false}
 use Rattle.std.proofs.lemmas.List.{take_more}
-use Rattle.cmd_svc.specs.Turns.{InTurn}
+use Rattle.svc_client.specs.Turns.{InTurn}
 use Rattle.cmd_svc.specs.Svc.{sending, Serves, svc_warning}
-use Rattle.cmd_svc.proofs.Turns.{in_turn-then}
+use Rattle.svc_client.proofs.Turns.{in_turn-then}
 use Rattle.cmd_svc.proofs.svc.serve_each.Goals as goal
 
 pub loop-name-preserved : goal.loop-name-preserved

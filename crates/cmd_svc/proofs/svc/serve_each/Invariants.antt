@@ -1,5 +1,5 @@
 use Rattle.std.proofs.Common.{take, false}
-use Rattle.cmd_svc.specs.Turns.{InTurn}
+use Rattle.svc_client.specs.Turns.{InTurn}
 use Rattle.cmd_svc.specs.Svc.{sending, Serves, svc_warning}
 use Rattle.cmd_svc.proofs.svc.serve_each.Given as goal
 

@@ -4,8 +4,8 @@ use Rattle.tai_status.specs.Extended.{Extended}
 use Rattle.tai_status.specs.Loading.{loaded_from}
 use Rattle.tai_status.specs.declared.loading.Loaded.{Loaded}
 use Rattle.tai_status.specs.declared.record.RecordFault.{RecordFault}
-use Rattle.cmd_svc.specs.Calls.{Reached, ReadStatus}
-use Rattle.cmd_svc.proofs.Turns.{extended-then}
+use Rattle.svc_client.specs.Calls.{Reached, ReadStatus}
+use Rattle.svc_client.proofs.Turns.{extended-then}
 use Rattle.cmd_wait.specs.Finding.{Absent, AsksReady, Shown, Unread, asks_ready, calls_of_age, calls_of_ready}
 use Rattle.cmd_wait.specs.Finding.{process_asked, record_finding}
 use Rattle.cmd_wait.proofs.Saying.{said_by}

@@ -2,8 +2,8 @@ use Rattle.std.proofs.Common.{rules, ◌≡◌, ◌+◌, ◌<◌, ℕ, List, [],
 use Rattle.std.proofs.Common.{subst, slice_set}
 use Rattle.std.proofs.lemmas.List.{take_more_set, map-append}
 use Rattle.std.proofs.Math.Seq.{map-set_same}
-use Rattle.cmd_svc.specs.Turns.{InTurn}
-use Rattle.cmd_svc.proofs.Turns.{in_turn-then, parts-at}
+use Rattle.svc_client.specs.Turns.{InTurn}
+use Rattle.svc_client.proofs.Turns.{in_turn-then, parts-at}
 use Rattle.cmd_wait.specs.Finding.{awaited, entry_folders}
 use Rattle.cmd_wait.specs.Marking.{Marks, marking}
 use Rattle.cmd_wait.specs.declared.finding.Entry.{Entry}

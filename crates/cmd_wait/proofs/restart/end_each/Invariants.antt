@@ -1,6 +1,6 @@
 use Rattle.std.proofs.Common.{take, false}
 use Rattle.cmd_svc.specs.Svc.{Serves, sending}
-use Rattle.cmd_svc.specs.Turns.{InTurn}
+use Rattle.svc_client.specs.Turns.{InTurn}
 use Rattle.cmd_wait.specs.Finding.{awaited}
 use Rattle.cmd_wait.specs.Restarting.{restart_bytes, restart_warning, sent_to}
 use Rattle.cmd_wait.proofs.restart.end_each.Given as goal

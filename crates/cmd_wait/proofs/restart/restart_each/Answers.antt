@@ -1,7 +1,7 @@
 use Rattle.std.proofs.Common.{rules, ◌≡◌, ℕ, Bool, true, false, List, refl, subst, inl, inr}
 use Rattle.cmd_svc.specs.Words.{texts}
 use Rattle.cmd_svc.specs.Svc.{Serves, sending}
-use Rattle.cmd_svc.specs.Turns.{InTurn}
+use Rattle.svc_client.specs.Turns.{InTurn}
 use Rattle.cmd_wait.specs.Steps.{sight}
 use Rattle.cmd_wait.specs.Finding.{awaited, entry_folders}
 use Rattle.cmd_wait.specs.Marking.{MarksEach, MarksNot}

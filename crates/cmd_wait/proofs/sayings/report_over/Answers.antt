@@ -1,7 +1,7 @@
 use Rattle.std.proofs.Common.{rules, ◌<◌, ◌≡◌, ℕ, List, take, length, sym, subst}
 use Rattle.tai_status.specs.Counted.{Reports}
-use Rattle.cmd_svc.specs.Turns.{InTurn}
-use Rattle.cmd_svc.proofs.Turns.{in_turn-then}
+use Rattle.svc_client.specs.Turns.{InTurn}
+use Rattle.svc_client.proofs.Turns.{in_turn-then}
 use Rattle.cmd_wait.specs.Finding.{entry_folders}
 use Rattle.cmd_wait.specs.Ends.{ReportsOver, over_note, report_of}
 use Rattle.cmd_wait.proofs.Looking.{folder_in, folders-to}

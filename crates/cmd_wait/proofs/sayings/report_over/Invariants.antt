@@ -1,5 +1,5 @@
 use Rattle.std.proofs.Common.{take}
-use Rattle.cmd_svc.specs.Turns.{InTurn}
+use Rattle.svc_client.specs.Turns.{InTurn}
 use Rattle.cmd_wait.specs.Finding.{entry_folders}
 use Rattle.cmd_wait.specs.Ends.{ReportsOver}
 use Rattle.cmd_wait.proofs.sayings.report_over.Given as goal

@@ -1,6 +1,6 @@
 use Rattle.std.proofs.Common.{rules, ◌≡◌, ℕ, List, [], length, refl, sym, subst, inl, inr}
 use Rattle.tai_status.specs.Counted.{Device, Reports}
-use Rattle.cmd_svc.specs.Turns.{InTurn}
+use Rattle.svc_client.specs.Turns.{InTurn}
 use Rattle.cmd_wait.specs.Finding.{Awaited, awaited, entry_folders, folders}
 use Rattle.cmd_wait.specs.declared.finding.Entry.{Entry}
 use Rattle.cmd_wait.specs.Steps.{Sight, sight, IsOver}

@@ -1,6 +1,6 @@
 use Rattle.std.proofs.Common.{rules, ◌<◌, ℕ, List, Some, take, length, sym, subst}
-use Rattle.cmd_svc.specs.Turns.{InTurn}
-use Rattle.cmd_svc.proofs.Turns.{in_turn-then}
+use Rattle.svc_client.specs.Turns.{InTurn}
+use Rattle.svc_client.proofs.Turns.{in_turn-then}
 use Rattle.cmd_wait.specs.Finding.{entry_folders}
 use Rattle.cmd_wait.specs.Watching.{Learns, Learnt, learnt}
 use Rattle.cmd_wait.proofs.Looking.{folder_in, folders-to}

@@ -1,5 +1,5 @@
 use Rattle.std.proofs.Common.{take, Some}
-use Rattle.cmd_svc.specs.Turns.{InTurn}
+use Rattle.svc_client.specs.Turns.{InTurn}
 use Rattle.cmd_wait.specs.Finding.{entry_folders}
 use Rattle.cmd_wait.specs.Watching.{Learns, learnt}
 use Rattle.cmd_wait.proofs.watch.newest_change.Given as goal

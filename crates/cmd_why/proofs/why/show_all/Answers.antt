@@ -1,6 +1,6 @@
 use Rattle.std.proofs.Common.{rules, ◌+◌, ◌<◌, ℕ, List, [], take, drop, map, length, get_or, sym, subst, false, Bor}
-use Rattle.cmd_svc.specs.Turns.{InTurn}
-use Rattle.cmd_svc.proofs.Turns.{in_turn-then, taken-one, parts-at}
+use Rattle.svc_client.specs.Turns.{InTurn}
+use Rattle.svc_client.proofs.Turns.{in_turn-then, taken-one, parts-at}
 use Rattle.cmd_why.specs.Why.{scene, Shows, ShowsUpTo}
 use Rattle.cmd_why.proofs.why.show_all.Goals as goal
 

@@ -1,7 +1,7 @@
 -- What a look at services does.
 use Rattle.std.specs.Prelude.{List, Option}
 use Rattle.tai_status.specs.Label.{Tai64n}
-use Rattle.cmd_svc.specs.Calls.{Call}
+use Rattle.svc_client.specs.Calls.{Call}
 
 -- The calls that were made, and what the clock returned.
 pub record Sight : Type 0 where

@@ -1,10 +1,10 @@
 //! The system's own folders of services.
 ghost use Rattle.std.specs.Prelude.{◌≡◌, ◌↔◌, ◌≤◌, ◌<◌, ◌+◌, ◌*◌, ◌^◌, ◌++◌, length, IsTrue, SomeIff};
 ghost use Rattle.std.specs.IoError.{error_kind};
-ghost use Rattle.cmd_svc.specs.Paths.{FitsAddress};
-ghost use Rattle.cmd_svc.specs.Connecting.{unreached_by};
+ghost use Rattle.svc_client.specs.Paths.{FitsAddress};
+ghost use Rattle.svc_client.specs.Connecting.{unreached_by};
 
-use crate::course::{NOTICE_BYTES, Notice, NoticeText};
+use crate::notice::{NOTICE_BYTES, Notice, NoticeText};
 use crate::process::{age_at, living_tick};
 use crate::services::{Services, Unreached};
 use arrayvec::ArrayString;
@@ -151,6 +151,7 @@ fn notice_path(notice: Notice) -> &'static str {
         Notice::Exit => "/supervise/exit",
         Notice::Ready => "/supervise/ready",
         Notice::Backoff => "/supervise/backoff",
+        Notice::Counts => "/supervise/counts",
     }
 }
 

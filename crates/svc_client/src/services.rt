@@ -1,5 +1,5 @@
 //! The folders of services, as a client sees them.
-use crate::course::{Notice, NoticeText};
+use crate::notice::{Notice, NoticeText};
 use cmd_base::StatusFront;
 use std::io;
 use tai_status::Cause;
@@ -19,8 +19,8 @@ pub enum Unreached {
 /// these are recorded.
 pub trait Services {
     ghost use Rattle.std.specs.Prelude.{◌∷◌, [], Option, Some, None, List, IfOk, IfErr, OnOk, OnErr, option_map};
-    ghost use Rattle.cmd_svc.specs.Calls.{Call, Sent, Reached, ReadStatus, SoughtAge, SoughtChange, SoughtDown};
-    ghost use Rattle.cmd_svc.specs.Calls.{ReadNotice, SoughtFinish, SoughtFolder};
+    ghost use Rattle.svc_client.specs.Calls.{Call, Sent, Reached, ReadStatus, SoughtAge, SoughtChange, SoughtDown};
+    ghost use Rattle.svc_client.specs.Calls.{ReadNotice, SoughtFinish, SoughtFolder};
     ghost use Rattle.tai_status.specs.Extended.{Extended};
 
     ghost calls: { Self → Option (List Call) } = { λ _. None };
@@ -52,7 +52,7 @@ pub trait Services {
     fn has_finish(&mut self, folder: &str) -> bool
         ensures sought { Extended (calls self.old) (calls self.new) (SoughtFinish folder.now result ∷ []) };
 
-    /// Returns the text of a notice of svscan about the process of the service in a folder, if it can be read.
+    /// Returns the text of a notice of svscan about the processes of the service in a folder, if it can be read.
     fn read_notice(&mut self, folder: &str, notice: Notice) -> Option<NoticeText>
         ensures read { Extended (calls self.old) (calls self.new)
             (ReadNotice folder.now notice (option_map (λ text. text.items) result) ∷ []) };

@@ -1,8 +1,8 @@
 -- What a client asks of the folders of services, and the results.
 use Rattle.std.specs.Prelude.{ℕ, Bool, List, Option}
 use Rattle.tai_status.specs.declared.cause.Cause.{Cause}
-use Rattle.cmd_svc.specs.declared.course.Notice.{Notice}
-use Rattle.cmd_svc.specs.declared.services.Unreached.{Unreached}
+use Rattle.svc_client.specs.declared.notice.Notice.{Notice}
+use Rattle.svc_client.specs.declared.services.Unreached.{Unreached}
 
 -- A call for the service in a folder, with its result. The calls, in the order of the constructors:
 --
@@ -11,7 +11,7 @@ use Rattle.cmd_svc.specs.declared.services.Unreached.{Unreached}
 -- - Its status file was read, and these are its first 21 bytes at most, or it could not be read.
 -- - A file `down` was looked for.
 -- - A file `finish` was looked for.
--- - A notice of svscan about its process was read, and this is its text, or it could not be read.
+-- - A notice of svscan about its processes was read, and this is its text, or it could not be read.
 -- - It was asked when something in its folder `supervise` last changed, and it was at this time, or that was not found.
 -- - It was asked whether there is a folder, and there is, or this is why there is none.
 -- - It was asked for how many hundredths of a second a process has lived, and it was this many, or it does not live.

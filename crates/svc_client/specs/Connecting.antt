@@ -1,8 +1,8 @@
 -- What a failed connection to a service says.
 use Rattle.std.specs.declared.io.ErrorKind.{ErrorKind}
 use Rattle.std.specs.declared.io.ErrorKind.TheVariants.{PermissionDenied, WouldBlock, BrokenPipe, ConnectionReset}
-use Rattle.cmd_svc.specs.declared.services.Unreached.{Unreached}
-use Rattle.cmd_svc.specs.declared.services.Unreached.TheVariants.{NotRunning, Denied, Unanswered}
+use Rattle.svc_client.specs.declared.services.Unreached.{Unreached}
+use Rattle.svc_client.specs.declared.services.Unreached.TheVariants.{NotRunning, Denied, Unanswered}
 
 -- why a service is not reached: this user may not connect; or it exists, and has no room for one more or ended when it
 -- was sent something; or nothing accepts connections there

@@ -3,9 +3,9 @@ use Rattle.std.proofs.Common.{◌≡◌, ℕ, ◌+◌, ◌<◌, List, [], ◌∷
 use Rattle.std.proofs.Common.{None, refl, sym, ap, ◌∙◌, subst, append_assoc, add-one, Bool, true, false, not}
 use Rattle.std.proofs.lemmas.List.{take_more, take-append-drop, map-append}
 use Rattle.std.proofs.Math.Seq.{drop-cons}
-use Rattle.cmd_svc.specs.Calls.{Call}
+use Rattle.svc_client.specs.Calls.{Call}
 use Rattle.tai_status.specs.Extended.{Extended}
-use Rattle.cmd_svc.specs.Turns.{InTurn}
+use Rattle.svc_client.specs.Turns.{InTurn}
 
 -- calls after calls
 pub extended-then : (a b c : Option (List Call)) (first rest : List Call) → Extended a b first → Extended b c rest

@@ -12,7 +12,7 @@ pub struct Observer<S: Services, C: TimeSource> {
 }
 
 impl<S: Services, C: TimeSource> Model for Observer<S, C> {
-    ghost use Rattle.cmd_svc.specs.Sight.{Sight, sight};
+    ghost use Rattle.svc_client.specs.Sight.{Sight, sight};
 
     ghost Value = { Sight };
 

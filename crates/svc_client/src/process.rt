@@ -1,7 +1,7 @@
 //! How long a process has lived, from the kernel's lines about processes.
 ghost use Rattle.std.specs.Prelude.{◌≡◌, ◌<◌, ◌^◌, ℕ, Some, IfSome, option_copied, slice_get};
 ghost use Rattle.sup_core.specs.Reading.{fields};
-ghost use Rattle.cmd_svc.specs.Process.{LivesSince, age_at, behind_name, is_dead};
+ghost use Rattle.svc_client.specs.Process.{LivesSince, age_at, behind_name, is_dead};
 
 use sup_core::{read_number, split_field};
 
