@@ -7,9 +7,9 @@ use Rattle.tai_status.specs.Loading.{status_in}
 use Rattle.tai_status.specs.declared.record.Want.{Want}
 use Rattle.tai_status.specs.declared.record.Want.TheVariants as want
 use Rattle.sup_trace.specs.Content.{Content}
-use Rattle.svc_exit.specs.declared.ending.Ending.{Ending}
-use Rattle.svc_exit.specs.declared.ending.Ending.TheVariants as ending
-use Rattle.svc_exit.specs.declared.exit.Exit.{Exit}
+use Rattle.svc_record.specs.declared.ending.Ending.{Ending}
+use Rattle.svc_record.specs.declared.ending.Ending.TheVariants as ending
+use Rattle.svc_record.specs.declared.exit.Exit.{Exit}
 use Rattle.cmd_svc.specs.Line.{is_running, wants_up}
 use Rattle.svc_client.specs.declared.services.Unreached.{Unreached}
 use Rattle.svc_client.specs.declared.services.Unreached.TheVariants as unreached

@@ -14,7 +14,7 @@ use cmd_why::leads_to;
 use std::alloc::{AllocError, Allocator};
 use sup_trace::TraceText;
 use svc_client::Unreached;
-use svc_exit::{Ending, Exit, signal_name};
+use svc_record::{Ending, Exit, signal_name};
 use tai_status::{Label, View, Want};
 
 /// Returns the status that a look found.

@@ -14,7 +14,7 @@ use crate::text::push_text;
 use cmd_report::Found;
 use std::alloc::{AllocError, Allocator};
 use sup_trace::TraceText;
-use svc_exit::Exit;
+use svc_record::Exit;
 use tai_status::{Label, View};
 
 /// Returns what is before the time of the page.

@@ -2,7 +2,7 @@
 use Rattle.std.specs.Prelude.{ℕ, ◌+◌, ◌*◌, ◌-◌, ◌^◌, nat_le, nat_lt, ◌==◌, Bool, not, ◌&&◌, ◌||◌, if◌then◌else◌, List}
 use Rattle.std.specs.Prelude.{length, slice_index, take, drop, fold, position, Option, Some, None}
 use Rattle.std.specs.List.{list_all}
-use Rattle.svc_exit.specs.declared.counts.Counts.{Counts}
+use Rattle.svc_record.specs.declared.counts.Counts.{Counts}
 
 abbrev pub is_digit : ℕ → Bool
 is_digit byte = nat_le 48 byte && nat_le byte 57

@@ -8,8 +8,8 @@ use Rattle.cmd_svc.specs.declared.look.Look.{Look}
 use Rattle.cmd_svc.specs.declared.look.Look.TheVariants as look
 use Rattle.svc_client.specs.declared.notice.Notice.TheVariants as notice
 use Rattle.cmd_why.specs.Why.{ReadsExit}
-use Rattle.svc_exit.specs.declared.counts.Counts.{Counts}
-use Rattle.svc_exit.specs.declared.exit.Exit.{Exit}
+use Rattle.svc_record.specs.declared.counts.Counts.{Counts}
+use Rattle.svc_record.specs.declared.exit.Exit.{Exit}
 use Rattle.cmd_report.specs.Counts.{counts_in}
 use Rattle.cmd_report.specs.declared.found.Found.{Found}
 

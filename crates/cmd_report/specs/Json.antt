@@ -19,9 +19,9 @@ use Rattle.svc_client.specs.declared.services.Unreached.TheVariants as unreached
 use Rattle.cmd_svc.specs.declared.course.Course.{Course}
 use Rattle.cmd_svc.specs.declared.look.Look.{Look}
 use Rattle.cmd_svc.specs.declared.look.Look.TheVariants as look
-use Rattle.svc_exit.specs.declared.exit.Exit.{Exit}
+use Rattle.svc_record.specs.declared.exit.Exit.{Exit}
 use Rattle.cmd_report.specs.Metrics.{backoff_in, deaths_in, is_finishing, ready_in, signal_of, starts_in, status_of, unix_second}
-use Rattle.svc_exit.specs.declared.counts.Counts.{Counts}
+use Rattle.svc_record.specs.declared.counts.Counts.{Counts}
 use Rattle.cmd_report.specs.declared.found.Found.{Found}
 
 -- These tokens were written after those that were there.

@@ -16,10 +16,10 @@ use Rattle.cmd_svc.specs.declared.course.Course.{Course}
 use Rattle.cmd_svc.specs.declared.course.Course.TheVariants.{BackingOff, Finishing, Ready}
 use Rattle.cmd_svc.specs.declared.look.Look.{Look}
 use Rattle.cmd_svc.specs.declared.look.Look.TheVariants as look
-use Rattle.svc_exit.specs.declared.ending.Ending.{Ending}
-use Rattle.svc_exit.specs.declared.ending.Ending.TheVariants.{Status, Signal}
-use Rattle.svc_exit.specs.declared.exit.Exit.{Exit}
-use Rattle.svc_exit.specs.declared.counts.Counts.{Counts}
+use Rattle.svc_record.specs.declared.ending.Ending.{Ending}
+use Rattle.svc_record.specs.declared.ending.Ending.TheVariants.{Status, Signal}
+use Rattle.svc_record.specs.declared.exit.Exit.{Exit}
+use Rattle.svc_record.specs.declared.counts.Counts.{Counts}
 use Rattle.cmd_report.specs.declared.found.Found.{Found}
 use Rattle.cmd_report.specs.declared.samples.Sample.{Sample}
 use Rattle.cmd_report.specs.declared.samples.Sample.TheVariants as sample

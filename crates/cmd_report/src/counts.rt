@@ -3,7 +3,7 @@ ghost use Rattle.std.specs.Prelude.{◌≡◌, ◌==◌, ◌<◌, ◌-◌, ◌+�
 ghost use Rattle.std.specs.List.{list_all};
 ghost use Rattle.cmd_report.specs.Counts.{both, counts_in, is_digit, is_numeral, line_counts, number_of, value_of};
 
-use svc_exit::Counts;
+use svc_record::Counts;
 
 /// Returns what the bytes of a file `counts` say: one line `STARTS DEATHS`, two decimal numbers below 2^64 without
 /// leading zeros. Returns None for anything else.

@@ -9,7 +9,7 @@ use cmd_svc::{Look, look_at};
 use cmd_why::read_exit;
 use std::alloc::{AllocError, Allocator};
 use svc_client::{Notice, Observer, Services};
-use svc_exit::{Counts, Exit};
+use svc_record::{Counts, Exit};
 use tai_status::TimeSource;
 
 /// Reads what the file `counts` of the service in a folder says, if it can be read.

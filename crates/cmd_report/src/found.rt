@@ -1,6 +1,6 @@
 //! What is found about a service: a look at it, its counts, and its last end.
 use cmd_svc::Look;
-use svc_exit::{Counts, Exit};
+use svc_record::{Counts, Exit};
 
 /// What was found about the service in a folder.
 #[derive(Clone, Copy, Debug)]

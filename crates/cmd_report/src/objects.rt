@@ -15,7 +15,7 @@ use cmd_svc::{Course, Look, is_running};
 use json::Writer;
 use std::alloc::{AllocError, Allocator};
 use svc_client::Unreached;
-use svc_exit::{Counts, Exit};
+use svc_record::{Counts, Exit};
 use tai_status::{Label, Loaded, RecordFault, View, Want, phase_name};
 
 /// Returns what was found about a service as one JSON object (RFC 8259), without a newline. If its status was read, the

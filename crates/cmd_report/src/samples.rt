@@ -8,7 +8,7 @@ ghost use Rattle.cmd_report.specs.Metrics.{backoff_in, is_finishing, ready_in, s
 
 use crate::found::Found;
 use cmd_svc::{Course, Look, is_running};
-use svc_exit::{Counts, Ending, Exit};
+use svc_record::{Counts, Ending, Exit};
 use tai_status::{Label, Loaded, Phase, Want, phase_name};
 
 /// A sample that a service has of a metric.

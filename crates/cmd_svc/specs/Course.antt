@@ -4,8 +4,8 @@ use Rattle.std.specs.Prelude.{codes, decimal, Option, Some, None}
 use Rattle.tai_status.specs.Extended.{Extended}
 use Rattle.tai_status.specs.Label.{Tai64n, is_earlier}
 use Rattle.tai_status.specs.Record.{Status}
-use Rattle.svc_exit.specs.Moments.{IsMomentIn}
-use Rattle.svc_exit.specs.declared.moment.Moment.{Moment}
+use Rattle.svc_record.specs.Moments.{IsMomentIn}
+use Rattle.svc_record.specs.declared.moment.Moment.{Moment}
 use Rattle.svc_client.specs.Calls.{Call, ReadNotice, SoughtFinish}
 use Rattle.cmd_svc.specs.declared.course.Course.{Course}
 use Rattle.cmd_svc.specs.declared.course.Course.TheVariants.{BackingOff, Finishing, Plain, Ready}

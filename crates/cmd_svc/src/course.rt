@@ -8,7 +8,7 @@ ghost use Rattle.cmd_svc.specs.Line.{is_running};
 use crate::line::{is_running, push_number};
 use std::alloc::{AllocError, Allocator};
 use svc_client::{Notice, Services};
-use svc_exit::{Moment, moment_in};
+use svc_record::{Moment, moment_in};
 use tai_status::{Label, Loaded, View};
 
 /// What a service does that its status does not say.

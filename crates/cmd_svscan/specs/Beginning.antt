@@ -3,7 +3,7 @@ use Rattle.std.specs.Prelude.{◌≡◌, ◌⊎◌, ⊤, ℕ, Bool, List, [], �
 use Rattle.scan_table.specs.Table.{new_table}
 use Rattle.svc_maker.specs.declared.holder.OwnFault.{OwnFault}
 use Rattle.svc_maker.specs.declared.holder.OwnFault.TheVariants.{Unopened, NotAdmitted}
-use Rattle.svc_world.specs.declared.folder.FolderFault.TheVariants as folder
+use Rattle.svc_system.specs.declared.folder.FolderFault.TheVariants as folder
 use Rattle.svscan_rounds.specs.Quiet.{fresh}
 use Rattle.svscan_rounds.specs.declared.service_set.Begun.{Begun}
 use Rattle.svscan_rounds.specs.declared.service_set.Begun.TheVariants.{Served, Unserved, Locked, Unread, Refused}

@@ -12,7 +12,7 @@ use std::process::{Processes, SystemProcess};
 use std::{fs, process};
 use svc_host::Runtime;
 use svc_maker::{FolderHolder, OwnFault};
-use svc_world::FolderFault;
+use svc_system::FolderFault;
 use svscan_rounds::Begun;
 use tai_status::Cause;
 

@@ -14,7 +14,7 @@ use svc_door::Door;
 use svc_host::{Host, Maker, Runtime};
 use svc_house::MailInbox;
 use svc_maker::{FolderMaker, SystemParts};
-use svc_world::AdoptionWatch;
+use svc_system::AdoptionWatch;
 use svscan_rounds::Quiet;
 
 /// The most control bytes that wait for a service, and the most pieces of its output that wait for its logger.

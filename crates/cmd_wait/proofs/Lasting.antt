@@ -6,7 +6,7 @@ use Rattle.tai_status.specs.Loading.{loaded_from, status_in}
 use Rattle.tai_status.specs.Label.{Tai64n}
 use Rattle.tai_status.specs.declared.loading.Loaded.{Loaded}
 use Rattle.tai_status.specs.declared.record.RecordFault.{RecordFault}
-use Rattle.svc_exit.specs.declared.moment.Moment.{Moment}
+use Rattle.svc_record.specs.declared.moment.Moment.{Moment}
 use Rattle.cmd_svc.specs.Course.{about, is_about}
 use Rattle.svc_client.specs.declared.services.Unreached.TheVariants.{NotRunning, Denied, Unanswered}
 use Rattle.cmd_wait.specs.Finding.{Sighting, Absent, Unread, Shown, SeesAnother, SeesReady, SeesUp, finding_of}

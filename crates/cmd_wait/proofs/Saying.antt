@@ -1,7 +1,7 @@
 -- What a look reads about readiness.
 use Rattle.std.proofs.Common.{◌≡◌, ℕ, Bool, true, false, List, [], Option, None, sym, subst}
 use Rattle.tai_status.specs.Extended.{Extended}
-use Rattle.svc_exit.specs.declared.moment.Moment.{Moment}
+use Rattle.svc_record.specs.declared.moment.Moment.{Moment}
 use Rattle.svc_client.specs.Calls.{Call}
 use Rattle.cmd_svc.specs.Course.{IsNoticed}
 use Rattle.cmd_wait.specs.Finding.{AsksReady, calls_of_ready}

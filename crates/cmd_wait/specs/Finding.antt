@@ -11,7 +11,7 @@ use Rattle.tai_status.specs.declared.loading.Loaded.TheVariants.{Old, New}
 use Rattle.tai_status.specs.declared.phase.Phase.{Phase}
 use Rattle.tai_status.specs.declared.phase.Phase.TheVariants as phase
 use Rattle.tai_status.specs.declared.record.RecordFault.{RecordFault}
-use Rattle.svc_exit.specs.declared.moment.Moment.{Moment}
+use Rattle.svc_record.specs.declared.moment.Moment.{Moment}
 use Rattle.svc_client.specs.Calls.{Call, Reached, ReadNotice, ReadStatus, SoughtAge}
 use Rattle.cmd_svc.specs.Course.{IsNoticed, ReadsNotice, about, is_about}
 use Rattle.svc_client.specs.declared.notice.Notice.TheVariants as notice

@@ -8,7 +8,7 @@ ghost use Rattle.cmd_wait.specs.Finding.{unsupervised_finding, AsksReady, Finds,
 use cmd_svc::{about, is_running, read_moment};
 use std::io::ErrorKind;
 use svc_client::{Notice, Services, Unreached};
-use svc_exit::Moment;
+use svc_record::Moment;
 use tai_status::{Label, Loaded, Phase, RecordFault, View, decode_front};
 
 /// The age, in hundredths of a second, from which the process of a service counts as up.

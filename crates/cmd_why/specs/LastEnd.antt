@@ -2,8 +2,8 @@
 use Rattle.std.specs.Prelude.{nat_lt, ◌==◌, ◌&&◌, Bool, if◌then◌else◌, Option, Some, None}
 use Rattle.std.specs.Prelude.{option_map}
 use Rattle.tai_status.specs.Label.{Tai64n}
-use Rattle.svc_exit.specs.declared.ending.Ending.{Ending}
-use Rattle.svc_exit.specs.declared.exit.Exit.{Exit}
+use Rattle.svc_record.specs.declared.ending.Ending.{Ending}
+use Rattle.svc_record.specs.declared.exit.Exit.{Exit}
 use Rattle.cmd_why.specs.Facts.{nanos, same_label}
 use Rattle.cmd_why.specs.declared.facts.Ended.{Ended}
 use Rattle.cmd_why.specs.declared.facts.Facts.{Facts}

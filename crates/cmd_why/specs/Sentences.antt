@@ -13,9 +13,9 @@ use Rattle.tai_status.specs.declared.record.Want.TheVariants as want
 use Rattle.sup_core.specs.declared.asks.Sig.{Sig}
 use Rattle.sup_core.specs.Rules.{signal_of}
 use Rattle.sup_core.specs.Text.{byte_text, signal_name}
-use Rattle.svc_exit.specs.Exits.{signal_name as name_of_signal}
-use Rattle.svc_exit.specs.declared.ending.Ending.{Ending}
-use Rattle.svc_exit.specs.declared.ending.Ending.TheVariants.{Status as OfStatus, Signal}
+use Rattle.svc_record.specs.Exits.{signal_name as name_of_signal}
+use Rattle.svc_record.specs.declared.ending.Ending.{Ending}
+use Rattle.svc_record.specs.declared.ending.Ending.TheVariants.{Status as OfStatus, Signal}
 use Rattle.cmd_svc.specs.Line.{is_running, seconds, note, normal_notes}
 use Rattle.cmd_svc.specs.declared.course.Course.{Course}
 use Rattle.cmd_why.specs.declared.facts.Ended.{Ended}
@@ -25,7 +25,7 @@ use Rattle.cmd_why.specs.declared.last_ends.LastEnd.TheVariants.{Traced, Recorde
 use Rattle.cmd_why.specs.Courses.{course_sentence}
 use Rattle.cmd_why.specs.Facts.{nanos}
 use Rattle.cmd_why.specs.LastEnd.{time_of_end}
-use Rattle.svc_exit.specs.declared.exit.Exit.{Exit}
+use Rattle.svc_record.specs.declared.exit.Exit.{Exit}
 
 -- The state: the record and the clock
 

@@ -27,10 +27,10 @@ use Rattle.cmd_svc.specs.Missing.{TellsEach, telling}
 use Rattle.svc_client.specs.Sight.{Sight, sight}
 use Rattle.cmd_svc.specs.Svstat.{fault_name}
 use Rattle.svc_client.specs.Turns.{InTurn}
-use Rattle.svc_exit.specs.declared.exit.Exit.{Exit}
+use Rattle.svc_record.specs.declared.exit.Exit.{Exit}
 use Rattle.cmd_why.specs.Texts.{Knowledge}
 use Rattle.cmd_why.specs.Facts.{facts_of, leads_to}
-use Rattle.svc_exit.specs.Exits.{Reads}
+use Rattle.svc_record.specs.Exits.{Reads}
 use Rattle.cmd_why.specs.Courses.{time_of_course}
 use Rattle.cmd_why.specs.LastEnd.{last_end}
 use Rattle.cmd_why.specs.Sentences.{why_line}

@@ -5,7 +5,7 @@ ghost use Rattle.cmd_why.specs.LastEnd.{ended_in, how, is_later, is_of_end, last
 ghost use Rattle.cmd_why.specs.LastEnd.{time_of_end, traced_end};
 
 use crate::facts::{Ended, Facts, nanos, same_label};
-use svc_exit::{Ending, Exit};
+use svc_record::{Ending, Exit};
 use tai_status::Label;
 
 /// The last end of a service's process.

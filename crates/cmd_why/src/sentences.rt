@@ -18,7 +18,7 @@ use crate::last_ends::{LastEnd, time_of_end};
 use cmd_svc::{Course, is_running, push_number};
 use std::alloc::{AllocError, Allocator};
 use sup_core::{byte_text, sig_name, signal_of};
-use svc_exit::{Ending, Exit, signal_name};
+use svc_record::{Ending, Exit, signal_name};
 use tai_status::{Label, Loaded, Phase, View, Want};
 
 /// Returns the line about a service: first its state, from its record and the clock, and then, if there is a trace,

@@ -22,7 +22,7 @@ use std::alloc::{AllocError, Allocator};
 use std::io::{ErrorKind, Write};
 use sup_trace::{TraceFaultKind, TraceText, read_text};
 use svc_client::{Notice, Observer, Services};
-use svc_exit::Exit;
+use svc_record::Exit;
 use tai_status::{Label, Loaded, Output, RecordFault, TimeSource, View, decode_front};
 
 /// Why the text of a service is not written.
@@ -105,7 +105,7 @@ pub fn read_exit<S: Services>(services: &mut S, folder: &str) -> Option<Exit>
     ensures { ReadsExit folder.now result (S.calls services.old) (S.calls services.new) }
 {
     match services.read_notice(folder, Notice::Exit) {
-        Some(text) => svc_exit::read_exit(text.as_slice()),
+        Some(text) => svc_record::read_exit(text.as_slice()),
         None => None,
     }
 }

@@ -19,8 +19,8 @@ use Rattle.suite_core.specs.Run.{is_taken_away}
 use Rattle.svc_host.specs.declared.host.HostOut.{HostOut}
 use Rattle.svc_host.specs.Parts.{HostPart, stays}
 use Rattle.svc_host.specs.Begun.{Begins, IsBegun, is_down, row_at}
-use Rattle.svc_left.specs.declared.opening.Opening.{Opening}
-use Rattle.svc_left.specs.Opening.{beginning as begins_so}
+use Rattle.svc_record.specs.declared.opening.Opening.{Opening}
+use Rattle.svc_record.specs.Opening.{beginning as begins_so}
 use Rattle.svc_host.specs.Rounds.{HostState, IsParted, IsScan, IsScanned, staying, unmade_ids}
 use Rattle.host_law.specs.Alike.{BeginsAlike, IsScanAlike, ScansAreAlike, part_of}
 

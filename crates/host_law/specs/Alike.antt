@@ -20,7 +20,7 @@ use Rattle.suite_core.specs.Parts.{trace_of}
 use Rattle.suite_core.specs.Suite.{SuiteState, Beginning, beginning, opening, scan_out, scan_starts, scan_restarts}
 use Rattle.suite_core.specs.Suite.{suite_scanned}
 use Rattle.suite_core.specs.Run.{is_taken_away, outs_along, suite_along}
-use Rattle.svc_left.specs.declared.opening.Opening.TheVariants.{ByRow}
+use Rattle.svc_record.specs.declared.opening.Opening.TheVariants.{ByRow}
 use Rattle.svc_host.specs.declared.host.HostOut.{HostOut}
 use Rattle.svc_host.specs.Parts.{HostPart}
 use Rattle.svc_host.specs.Begun.{IsBegun}

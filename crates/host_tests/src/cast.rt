@@ -6,7 +6,7 @@ use std::alloc::{AllocError, Global};
 use std::sync::Arc;
 use svc_host::{Maker, PartFault, PartResources};
 use svc_house::{ControlSender, Notifier};
-use svc_left::Opening;
+use svc_record::Opening;
 use tai_status::Label;
 
 /// Makes actors. The parts of the first slot get one gate, and those of every other slot another one.

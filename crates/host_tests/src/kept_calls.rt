@@ -5,7 +5,7 @@ use scan_table::PartId;
 use std::alloc::{AllocError, Global};
 use std::marker::Model;
 use svc_host::PartFault;
-use svc_left::Opening;
+use svc_record::Opening;
 
 /// A call of a maker, with its result.
 #[derive(Drop)]

@@ -12,7 +12,7 @@ use std::alloc::Global;
 use std::sync::Arc;
 use svc_host::{Maker, PartFault, PartResources};
 use svc_house::{ControlSender, Notifier};
-use svc_left::Opening;
+use svc_record::Opening;
 
 /// A cast that records its calls.
 #[derive(Drop)]

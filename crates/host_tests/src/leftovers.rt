@@ -1,5 +1,5 @@
 //! What is left over from a start, for trees of processes as they are found after a svscan was killed.
-use svc_left::{Intent, Leftover, Seen, find_any_here, find_leftover};
+use svc_record::{Intent, Leftover, Seen, find_any_here, find_leftover};
 
 // An svscan of session 7 intended a start at tick 100.
 const INTENT: Intent = Intent {

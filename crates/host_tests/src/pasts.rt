@@ -10,7 +10,7 @@ use scan_table::{DirRow, PartId};
 use std::alloc::Global;
 use std::test::Fail;
 use svc_host::{Host, Runtime};
-use svc_left::Opening;
+use svc_record::Opening;
 use tai_status::Label;
 
 /// Returns a host after its first scan. Its maker was asked nothing before, and then what the written rules of a scan

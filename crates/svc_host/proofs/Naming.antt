@@ -6,7 +6,7 @@ use Rattle.scan_table.specs.Slots.{SlotState}
 use Rattle.svc_house.proofs.Extended.{extended-append, extended-none}
 use Rattle.sup_trace.proofs.Lists.{AllByRecursion-joined}
 use Rattle.std.specs.Prelude.{Result, Ok, Err}
-use Rattle.svc_left.specs.declared.opening.Opening.{Opening}
+use Rattle.svc_record.specs.declared.opening.Opening.{Opening}
 use Rattle.svc_host.specs.declared.maker.PartFault.{PartFault}
 use Rattle.svc_host.specs.declared.pair.Pair.{Pair}
 use Rattle.svc_host.specs.Calls.{AsksByName, AsksPair, AsksPart, Call, EndedPart, IsByName, MadePair, MadePart}

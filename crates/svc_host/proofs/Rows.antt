@@ -3,7 +3,7 @@ use Rattle.std.proofs.Common.{◌≡◌, ℕ, List, Option, Some, None, Result, 
 use Rattle.std.specs.Option.{option_map}
 use Rattle.std.specs.Prelude.{IfOk}
 use Rattle.sup_core.specs.History.{state_of}
-use Rattle.svc_left.specs.Opening.{beginning}
+use Rattle.svc_record.specs.Opening.{beginning}
 use Rattle.tai_status.specs.Label.{Tai64n}
 use Rattle.scan_table.specs.declared.part.PartId.{PartId}
 use Rattle.scan_table.specs.Slots.{Row, SlotState}

@@ -2,7 +2,7 @@
 use Rattle.std.specs.Prelude.{◌≡◌, ℕ, Bool, false, List, [], Option, Some, None}
 use Rattle.sup_core.specs.State.{is_gone}
 use Rattle.sup_core.specs.History.{History, state_of}
-use Rattle.svc_left.specs.Opening.{beginning}
+use Rattle.svc_record.specs.Opening.{beginning}
 use Rattle.tai_status.specs.Label.{Tai64n}
 use Rattle.scan_table.specs.declared.part.Role.{Role}
 use Rattle.scan_table.specs.declared.part.Role.TheVariants.{Main, Log}

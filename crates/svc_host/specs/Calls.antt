@@ -5,7 +5,7 @@ use Rattle.std.specs.List.{AllByRecursion, filter, list_any}
 use Rattle.scan_table.specs.declared.part.PartId.{PartId}
 use Rattle.std.specs.Prelude.{Result, Ok, Err}
 use Rattle.std.specs.Option.{option_map}
-use Rattle.svc_left.specs.declared.opening.Opening.{Opening}
+use Rattle.svc_record.specs.declared.opening.Opening.{Opening}
 use Rattle.scan_table.specs.Slots.{Row, SlotState}
 use Rattle.scan_table.specs.Table.{TableState, has_log, name_of, slot_at}
 use Rattle.sup_trace.specs.Text.{trace_text}

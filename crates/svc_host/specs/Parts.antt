@@ -16,7 +16,7 @@ use Rattle.svc_station.specs.declared.rule.Origin.{Origin}
 use Rattle.svc_mail.specs.declared.sender.Sender.{Sender}
 use Rattle.svc_station.specs.declared.reader.Reader.{Reader}
 use Rattle.svc_station.specs.Ends.{known_to, reader_station}
-use Rattle.svc_left.specs.declared.opening.Opening.{Opening}
+use Rattle.svc_record.specs.declared.opening.Opening.{Opening}
 use Rattle.svc_host.specs.declared.part.Loss.{Loss}
 use Rattle.svc_host.specs.Mails.{Mail, WasFull, mail_of}
 

@@ -1,6 +1,6 @@
 -- How a part begins, by what its maker hands out.
 use Rattle.std.specs.Prelude.{Result, Ok, Err}
-use Rattle.svc_left.specs.declared.opening.Opening.{Opening}
+use Rattle.svc_record.specs.declared.opening.Opening.{Opening}
 use Rattle.svc_host.specs.declared.maker.PartFault.{PartFault}
 use Rattle.svc_host.specs.declared.maker.PartResources.{PartResources}
 

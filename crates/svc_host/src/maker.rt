@@ -5,7 +5,7 @@ use std::io::Read;
 use std::sync::{Arc, Wait};
 use std::time::Clock;
 use svc_house::{ControlSender, Gate, Notifier, World};
-use svc_left::Opening;
+use svc_record::Opening;
 use svc_relay::outlet::Outlet;
 use tai_status::Cause;
 
@@ -57,7 +57,7 @@ pub trait Maker {
     ghost use Rattle.std.specs.Result.{result_err};
     ghost use Rattle.svc_house.specs.Calls.{MadeWhileKept};
     ghost use Rattle.svc_host.specs.Answers.{answered};
-    ghost use Rattle.svc_left.specs.Opening.{BeginsAlive};
+    ghost use Rattle.svc_record.specs.Opening.{BeginsAlive};
     ghost use Rattle.svc_host.specs.Resources.{begins_as};
     ghost use Rattle.svc_host.specs.Calls.{Call, MadePart, MadePair, KeptTrace, EndedPart, ForgotSlot};
     ghost use Rattle.svc_host.specs.Calls.{WatchedOutputs, EndedOutput, AskedIsRead, CountedLost};

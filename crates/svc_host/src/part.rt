@@ -13,7 +13,7 @@ use std::sync::Wait;
 use std::thread::Threads;
 use sup_core::Machine;
 use svc_house::{ControlSender, Runtime};
-use svc_left::Opening;
+use svc_record::Opening;
 use svc_mail::letter::Full;
 
 /// What was lost as a part ended.

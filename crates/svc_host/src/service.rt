@@ -2,7 +2,7 @@
 ghost use Rattle.std.specs.Prelude.{◌≡◌, [], true};
 ghost use Rattle.tai_status.specs.declared.phase.Phase.{Phase};
 ghost use Rattle.sup_core.specs.History.{state_of};
-ghost use Rattle.svc_left.specs.Opening.{beginning};
+ghost use Rattle.svc_record.specs.Opening.{beginning};
 ghost use Rattle.svc_house.specs.Calls.{ExtendedWhileKept, requested};
 ghost use Rattle.sup_core.specs.Rules.{asks_of_begin};
 ghost use Rattle.svc_station.specs.Ends.{opening_of, published, station};
@@ -27,7 +27,7 @@ use sup_core::{Event, Machine};
 use svc_house::{
     ControlSender, Gate, House, HouseFault, Inbox, MailInbox, Notifier, Turned, World,
 };
-use svc_left::Opening;
+use svc_record::Opening;
 use svc_mail::receiver::Receiver;
 use svc_station::parked::Parked;
 use svc_station::writer::Writer;

@@ -9,11 +9,11 @@ use Rattle.std.specs.declared.fs.File.{File}
 use Rattle.std.specs.declared.sync.Arc.{Arc}
 use Rattle.tai_status.specs.declared.cause.Cause.{Cause}
 use Rattle.scan_table.specs.Slots.{Row}
-use Rattle.svc_world.specs.declared.output.OutputEnds.{OutputEnds}
-use Rattle.svc_world.specs.declared.flow.Flow.{Flow}
-use Rattle.svc_world.specs.declared.flow.LoggerInput.{LoggerInput}
-use Rattle.svc_left.specs.declared.opening.Left.{Left}
-use Rattle.svc_world.specs.declared.folder.FolderFault.{FolderFault}
+use Rattle.svc_system.specs.declared.output.OutputEnds.{OutputEnds}
+use Rattle.svc_system.specs.declared.flow.Flow.{Flow}
+use Rattle.svc_system.specs.declared.flow.LoggerInput.{LoggerInput}
+use Rattle.svc_record.specs.declared.opening.Left.{Left}
+use Rattle.svc_system.specs.declared.folder.FolderFault.{FolderFault}
 use Rattle.svc_maker.specs.declared.part_system.NotAdmitted.{NotAdmitted}
 
 -- One call, with its result. The calls, in the order of the constructors:

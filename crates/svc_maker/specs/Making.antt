@@ -17,13 +17,13 @@ use Rattle.tai_status.specs.declared.cause.Cause.TheVariants.{NoMemory}
 use Rattle.svc_host.specs.declared.maker.PartFault.{PartFault}
 use Rattle.svc_host.specs.declared.maker.PartFault.TheVariants as part
 use Rattle.svc_house.specs.Calls.{ExtendedWhileKept}
-use Rattle.svc_world.specs.declared.folder.FolderFault.TheVariants.{Locked, NotOpened}
-use Rattle.svc_left.specs.declared.opening.Left.{Left}
-use Rattle.svc_left.specs.declared.opening.Opening.{Opening}
-use Rattle.svc_left.specs.Opening.{opening_left}
-use Rattle.svc_world.specs.declared.output.OutputEnds.{OutputEnds}
-use Rattle.svc_world.specs.declared.flow.LoggerInput.{LoggerInput}
-use Rattle.svc_world.specs.declared.flow.ServiceOutput.{ServiceOutput}
+use Rattle.svc_system.specs.declared.folder.FolderFault.TheVariants.{Locked, NotOpened}
+use Rattle.svc_record.specs.declared.opening.Left.{Left}
+use Rattle.svc_record.specs.declared.opening.Opening.{Opening}
+use Rattle.svc_record.specs.Opening.{opening_left}
+use Rattle.svc_system.specs.declared.output.OutputEnds.{OutputEnds}
+use Rattle.svc_system.specs.declared.flow.LoggerInput.{LoggerInput}
+use Rattle.svc_system.specs.declared.flow.ServiceOutput.{ServiceOutput}
 use Rattle.svc_maker.specs.Calls.{Call, MadePipe, OpenedOutput, Opened, FoundLeft, MadeWorld, Admitted, Dismissed}
 use Rattle.svc_maker.specs.Calls.{KeptTrace}
 use Rattle.svc_maker.specs.Calls.{Allowed, OpenedOwn, Prepared, Recorded, WatchedOutputs}

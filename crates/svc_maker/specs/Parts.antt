@@ -3,7 +3,7 @@ use Rattle.std.specs.Prelude.{◌≡◌, ◌&&◌, nat_le, ℕ, Bool, List, Some
 use Rattle.std.specs.List.{filter}
 use Rattle.scan_table.specs.declared.part.PartId.{PartId}
 use Rattle.svc_host.specs.declared.maker.PartFault.{PartFault}
-use Rattle.svc_left.specs.declared.opening.Opening.{Opening}
+use Rattle.svc_record.specs.declared.opening.Opening.{Opening}
 use Rattle.svc_maker.specs.Admission.{AdmitsAll}
 use Rattle.svc_maker.specs.Making.{KeptPart, Making, SetsUp, part_fault}
 use Rattle.svc_maker.specs.declared.kept_folder.TheConstants.{BATCH}

@@ -3,7 +3,7 @@ use scan_table::DirRow;
 use std::alloc::AllocError;
 use svc_host::{Maker, Unmade};
 use svc_house::ControlSender;
-use svc_world::FolderFault;
+use svc_system::FolderFault;
 use tai_status::Cause;
 
 /// Why svscan itself is not served.

@@ -2,7 +2,7 @@
 ghost use Rattle.std.specs.Prelude.{◌≡◌, ◌++◌, [], option_map, IfOk, OnOk, OnErr};
 ghost use Rattle.std.specs.Result.{result_err, result_ok};
 ghost use Rattle.svc_host.specs.Answers.{answered};
-ghost use Rattle.svc_left.specs.Opening.{BeginsAlive};
+ghost use Rattle.svc_record.specs.Opening.{BeginsAlive};
 ghost use Rattle.svc_house.specs.Calls.{ExtendedWhileKept};
 ghost use Rattle.svc_maker.specs.Making.{EndsPart, KeepsTrace, MakesPair, Making, SetsUp};
 ghost use Rattle.svc_maker.specs.Parts.{AdmitsBatch};
@@ -18,7 +18,7 @@ use std::marker::Model;
 use std::sync::Arc;
 use svc_host::{Maker, PartFault, PartResources, Unmade};
 use svc_house::{ControlSender, Notifier, OpenGate};
-use svc_world::{LoggerInput, OutputEnds, ServiceOutput};
+use svc_system::{LoggerInput, OutputEnds, ServiceOutput};
 use tai_status::{Cause, Output};
 
 /// The number of svscan itself at the door. No life has this number.
@@ -132,7 +132,7 @@ where
 {
     ghost use Rattle.std.specs.Prelude.{◌≡◌, [], true, None, IfErr, IfOk};
     ghost use Rattle.svc_host.specs.Answers.{answered};
-    ghost use Rattle.svc_left.specs.Opening.{BeginsAlive};
+    ghost use Rattle.svc_record.specs.Opening.{BeginsAlive};
     ghost use Rattle.svc_maker.specs.Making.{EndsOutput, EndsPart, KeepsTrace, LooksAtInput, Loses};
     ghost use Rattle.svc_maker.specs.Making.{MakesPair, WatchesOutputs};
     ghost use Rattle.svc_maker.specs.Parts.{FailsToMake, MakesPart};

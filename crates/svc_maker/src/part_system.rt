@@ -7,8 +7,8 @@ use std::io::PipeReader;
 use std::sync::Arc;
 use svc_host::Reaper;
 use svc_house::{ControlSender, Notifier, World};
-use svc_left::Left;
-use svc_world::{Flow, FolderFault, LoggerInput, OutputEnds};
+use svc_record::Left;
+use svc_system::{Flow, FolderFault, LoggerInput, OutputEnds};
 use tai_status::Cause;
 
 /// What is given back if a part was not admitted to the door.
@@ -26,7 +26,7 @@ pub trait PartSystem {
     ghost use Rattle.std.specs.Result.{result_err};
     ghost use Rattle.svc_host.specs.Answers.{answered};
     ghost use Rattle.svc_house.specs.Calls.{MadeWhileKept};
-    ghost use Rattle.svc_left.specs.Process.{IsLiving};
+    ghost use Rattle.svc_record.specs.Process.{IsLiving};
     ghost use Rattle.svc_maker.specs.Calls.{Call, Allowed, MadePipe, OpenedOutput, Opened, FoundLeft, Admitted};
     ghost use Rattle.svc_maker.specs.Calls.{Dismissed, KeptTrace, OpenedOwn, Prepared, Recorded, WatchedOutputs};
     ghost use Rattle.svc_maker.specs.Calls.{CountedBetween, Drained, EndedOutput, LookedAtInput, why_refused};

@@ -13,7 +13,7 @@ use std::fs::File;
 use std::io::PipeReader;
 use std::sync::Arc;
 use svc_host::Outlets;
-use svc_world::{Flow, LoggerInput};
+use svc_system::{Flow, LoggerInput};
 use tai_status::{Counted, Output};
 
 /// Those ends of a pair's output and pipe that its children get.

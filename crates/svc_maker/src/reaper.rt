@@ -2,7 +2,7 @@
 use std::sync::Wait;
 use std::time::Clock;
 use svc_host::Reaper;
-use svc_world::ChildReaper;
+use svc_system::ChildReaper;
 
 /// Reaps the children of one service.
 #[derive(Drop)]

@@ -3,7 +3,7 @@ ghost use Rattle.std.specs.Prelude.{◌≡◌, ◌≢◌, ◌++◌, ◌∷◌, [
 ghost use Rattle.std.specs.Result.{result_err};
 ghost use Rattle.svc_maker.specs.declared.set_up.MakeFault.{MakeFault};
 ghost use Rattle.svc_host.specs.Answers.{answered};
-ghost use Rattle.svc_left.specs.Opening.{BeginsAlive};
+ghost use Rattle.svc_record.specs.Opening.{BeginsAlive};
 ghost use Rattle.svc_maker.specs.Making.{SetsUpAt, behind, part_fault, part_name};
 
 use crate::kept_folder::LockedFolder;
@@ -14,8 +14,8 @@ use std::alloc::{AllocError, Global};
 use std::sync::Arc;
 use svc_host::PartFault;
 use svc_house::Notifier;
-use svc_left::Opening;
-use svc_world::FolderFault;
+use svc_record::Opening;
+use svc_system::FolderFault;
 use tai_status::Cause;
 
 /// Why a part was not made.

@@ -1,6 +1,6 @@
 //! The system's own parts of services. It says nothing to contracts.
 ghost use Rattle.std.specs.Prelude.{◌≡◌, string_bytes, IfOk};
-ghost use Rattle.svc_left.specs.Leftover.{HasNumber};
+ghost use Rattle.svc_record.specs.Leftover.{HasNumber};
 
 use crate::descriptors::are_too_few;
 use crate::kept_folder::LockedFolder;
@@ -22,12 +22,13 @@ use std::time::Clock;
 use std::{io, process};
 use svc_door::Door;
 use svc_house::{ControlSender, Notifier};
-use svc_left::{Found, Left, Leftover, Place};
-use svc_world::{
-    AdoptionWatch, ChildReaper, ChildWorld, Flow, FolderFault, LoggerInput, Neighbours, OutputEnds,
-    OwnRun, Patience, ServiceFolder, SignalShell, Streams, Surroundings, SystemChildren, drain,
-    is_read, open_output, prepare_outputs,
+use svc_record::{Found, Left, Leftover, Place};
+use svc_system::{
+    AdoptionWatch, ChildReaper, Flow, FolderFault, LoggerInput, Neighbours, OutputEnds, OwnRun,
+    Patience, ServiceFolder, SignalShell, Streams, Surroundings, SystemChildren, drain, is_read,
+    open_output, prepare_outputs,
 };
+use svc_world::ChildWorld;
 use tai_status::{Cause, TimeSource};
 
 /// The folder of a service on this system, with its lock.

@@ -1,12 +1,10 @@
 -- When the next start of a service waits, because its processes end too often.
-use Rattle.std.specs.Prelude.{◌≡◌, ◌<◌, ◌≤◌, ◌+◌, ◌-◌, ◌*◌, ◌^◌, ℕ, Bool, true, false, nat_le, nat_lt, if◌then◌else◌}
+use Rattle.std.specs.Prelude.{◌+◌, ◌-◌, ◌*◌, ◌^◌, ℕ, Bool, true, false, nat_le, nat_lt, if◌then◌else◌}
 use Rattle.std.specs.Prelude.{List, [], ◌∷◌, ◌++◌, drop, length, min}
 use Rattle.tai_status.specs.Label.{Tai64n, greatest}
 use Rattle.sup_core.specs.declared.asks.Sig.{Sig}
 use Rattle.sup_core.specs.declared.asks.Sig.TheVariants as sig
-use Rattle.svc_world.specs.Finish.{IsSeconds}
-use Rattle.svc_world.specs.declared.backoff.TheConstants.{LONGEST}
-use Rattle.svc_world.specs.declared.finish.TheConstants.{TICKS}
+use Rattle.svc_world.specs.declared.backoff.TheConstants.{TICKS}
 
 -- A signal asks a process to end, unless it stops it or lets it continue.
 abbrev pub asks_end : Sig → Bool
@@ -23,12 +21,6 @@ last_four ticks = drop (length ticks - 4) ticks
 abbrev pub is_fifth : (tick : ℕ) → List ℕ → Bool
 is_fifth tick (first ∷ second ∷ third ∷ fourth ∷ []) = nat_le tick (first + 60 * TICKS)
 is_fifth tick other = false
-
--- The text of a file is this number of seconds, from 1 to the most that a start may wait.
-pub record IsBackoff (seconds : ℕ) (text : List ℕ) : Type 0 where
-  pub is : IsSeconds seconds text
-  pub some : 0 < seconds
-  pub bound : seconds ≤ LONGEST
 
 -- the tick that comes this many seconds after another one, or the last tick
 abbrev pub tick_after : (seconds tick : ℕ) → ℕ

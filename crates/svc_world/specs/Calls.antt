@@ -2,9 +2,9 @@
 use Rattle.std.specs.Prelude.{ℕ, Bool, List, Option}
 use Rattle.tai_status.specs.Label.{Tai64n}
 use Rattle.sup_core.specs.declared.asks.Sig.{Sig}
-use Rattle.svc_exit.specs.declared.exit.Exit.{Exit}
-use Rattle.svc_left.specs.declared.place.Place.{Place}
-use Rattle.svc_left.specs.declared.leftover.Leftover.{Leftover}
+use Rattle.svc_record.specs.declared.exit.Exit.{Exit}
+use Rattle.svc_record.specs.declared.place.Place.{Place}
+use Rattle.svc_record.specs.declared.leftover.Leftover.{Leftover}
 use Rattle.svc_world.specs.declared.begin.Death.{Death}
 use Rattle.svc_world.specs.declared.paper.Paper.{Paper}
 use Rattle.svc_world.specs.declared.paper.Remark.{Remark}

@@ -5,12 +5,12 @@ use Rattle.tai_status.specs.Label.{Tai64n}
 use Rattle.tai_status.specs.declared.record.Want.{Want}
 use Rattle.tai_status.specs.declared.record.Want.TheVariants.{Up}
 use Rattle.svc_house.specs.Calls.{ExtendedWhileKept}
-use Rattle.svc_exit.specs.declared.exit.Exit.{Exit}
-use Rattle.svc_exit.specs.Exits.{exit_text}
-use Rattle.svc_exit.specs.Moments.{moment_text}
-use Rattle.svc_exit.specs.declared.moment.Moment.{Moment}
-use Rattle.svc_exit.specs.Counts.{counts_text, one_ended}
-use Rattle.svc_left.specs.Place.{finish_in, finishing, place_line}
+use Rattle.svc_record.specs.declared.exit.Exit.{Exit}
+use Rattle.svc_record.specs.Exits.{exit_text}
+use Rattle.svc_record.specs.Moments.{moment_text}
+use Rattle.svc_record.specs.declared.moment.Moment.{Moment}
+use Rattle.svc_record.specs.Counts.{counts_text, one_ended}
+use Rattle.svc_record.specs.Place.{finish_in, finishing, place_line}
 use Rattle.svc_world.specs.declared.begin.Death.{Death}
 use Rattle.svc_world.specs.declared.begin.LastChild.{LastChild}
 use Rattle.svc_world.specs.declared.begin.LastChild.TheVariants.{Gone, Alive, Dead, Finishing, Ended, Held}

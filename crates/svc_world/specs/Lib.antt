@@ -1,15 +1,5 @@
-pub mod Access
 pub mod Calls
+pub mod Owed
+pub mod Backoff
 pub mod Watch
 pub mod Deaths
-pub mod Commands
-pub mod Shell
-pub mod Stats
-pub mod Left
-pub mod Finish
-pub mod Flow
-pub mod Owed
-pub mod Linger
-pub mod Adoption
-pub mod Backoff
-pub mod Notification

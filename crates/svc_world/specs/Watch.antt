@@ -13,19 +13,19 @@ use Rattle.sup_core.specs.declared.asks.Sig.TheVariants as sig
 use Rattle.svc_house.specs.declared.call.StartAnswer.{StartAnswer}
 use Rattle.svc_house.specs.declared.call.StartAnswer.TheVariants.{Started, Failed}
 use Rattle.svc_house.specs.Calls.{ExtendedWhileKept}
-use Rattle.svc_exit.specs.declared.exit.Exit.{Exit}
-use Rattle.svc_exit.specs.Exits.{exit_text}
-use Rattle.svc_exit.specs.Moments.{moment_text}
-use Rattle.svc_exit.specs.declared.counts.Counts.{Counts}
-use Rattle.svc_exit.specs.declared.moment.Moment.{Moment}
-use Rattle.svc_exit.specs.Counts.{counts_text, no_counts, one_started}
-use Rattle.svc_left.specs.Process.{process_line}
-use Rattle.svc_left.specs.Place.{finish_in, intending, occupied, place_line, process_in, vacated, wanting}
-use Rattle.svc_left.specs.Leftover.{IsAwaited}
-use Rattle.svc_left.specs.declared.process.ProcessId.{ProcessId}
-use Rattle.svc_left.specs.declared.place.Place.{Place}
-use Rattle.svc_left.specs.declared.leftover.Leftover.{Leftover}
-use Rattle.svc_left.specs.declared.leftover.Leftover.TheVariants.{Nobody, Process, Unsure}
+use Rattle.svc_record.specs.declared.exit.Exit.{Exit}
+use Rattle.svc_record.specs.Exits.{exit_text}
+use Rattle.svc_record.specs.Moments.{moment_text}
+use Rattle.svc_record.specs.declared.counts.Counts.{Counts}
+use Rattle.svc_record.specs.declared.moment.Moment.{Moment}
+use Rattle.svc_record.specs.Counts.{counts_text, no_counts, one_started}
+use Rattle.svc_record.specs.Process.{process_line}
+use Rattle.svc_record.specs.Place.{finish_in, intending, occupied, place_line, process_in, vacated, wanting}
+use Rattle.svc_record.specs.Leftover.{IsAwaited}
+use Rattle.svc_record.specs.declared.process.ProcessId.{ProcessId}
+use Rattle.svc_record.specs.declared.place.Place.{Place}
+use Rattle.svc_record.specs.declared.leftover.Leftover.{Leftover}
+use Rattle.svc_record.specs.declared.leftover.Leftover.TheVariants.{Nobody, Process, Unsure}
 use Rattle.svc_world.specs.declared.begin.Death.{Death}
 use Rattle.svc_world.specs.declared.begin.LastChild.{LastChild}
 use Rattle.svc_world.specs.declared.begin.LastChild.TheVariants.{Gone, Alive, Dead, Held}

@@ -1,36 +1,17 @@
 //! When the next start of a service waits, because its processes end too often.
-ghost use Rattle.std.specs.Prelude.{◌≡◌, ◌<◌, ◌≤◌, ◌+◌, ℕ, IfSome, Some};
-ghost use Rattle.svc_world.specs.Backoff.{IsBackoff, asks_end, seconds_after, tick_after};
+ghost use Rattle.std.specs.Prelude.{◌≡◌};
+ghost use Rattle.svc_world.specs.Backoff.{asks_end, seconds_after, tick_after};
 
-use crate::finish::{TICKS, seconds_in};
 use arrayvec::ArrayVec;
 use std::marker::Model;
 use sup_core::Sig;
 use tai_status::Label;
 
-/// The file of a service that says for how many seconds a start waits after five ends within a minute.
-pub(crate) const BACKOFF: &str = "backoff";
-
-/// The most seconds for which a start waits.
-const LONGEST: u64 = 3600;
-
-/// What is said about a service if its file `backoff` holds no such number.
-pub(crate) const NO_BACKOFF: &str =
-    "backoff is no number of seconds from 1 to 3600: it does not count";
+/// The ticks of the kernel's clock in a second, as it reports times (sysconf(3), `_SC_CLK_TCK`).
+pub const TICKS: u128 = 100;
 
 /// The seconds within which the ends come.
 const MINUTE: u128 = 60;
-
-/// Returns the number of seconds in the text of `backoff`, from 1 to 3600. Returns None for any other text.
-pub(crate) fn backoff_seconds(text: &[u8]) -> Option<u64>
-    ensures some { IfSome result (λ seconds. IsBackoff seconds text.now) }
-    ensures only { (seconds : ℕ) → IsBackoff seconds text.now → result ≡ Some seconds }
-{
-    match seconds_in(text) {
-        Some(seconds) if 0 < seconds && seconds <= LONGEST => Some(seconds),
-        _ => None,
-    }
-}
 
 /// Returns whether a signal asks a process to end.
 pub(crate) fn asks_end(sig: Sig) -> bool

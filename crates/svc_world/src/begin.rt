@@ -1,5 +1,5 @@
 //! What is known of a child.
-use svc_exit::{Ending, Exit};
+use svc_record::{Ending, Exit};
 use tai_status::Label;
 
 /// How a child ended, and when.

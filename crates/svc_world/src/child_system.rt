@@ -2,8 +2,7 @@
 use crate::begin::Death;
 use crate::paper::{Paper, Remark};
 use sup_core::Sig;
-use svc_exit::Exit;
-use svc_left::{Leftover, Place};
+use svc_record::{Exit, Leftover, Place};
 use tai_status::Label;
 
 /// The children, papers and clock of one service. Contracts see the calls and their results, in order (`calls`), while
@@ -14,7 +13,7 @@ pub trait ChildSystem {
     ghost use Rattle.svc_world.specs.Calls.{Call, Spawned, SoughtDeath, Lingered, Signalled, Wrote, Said};
     ghost use Rattle.svc_world.specs.Calls.{SoughtLeftover, Adopted, SoughtLate, SoughtTick, ReadTick, ReadClock};
     ghost use Rattle.svc_world.specs.Calls.{SoughtBackoff, SoughtFinish, SoughtKillTime, SoughtReady, SpawnedFinish};
-    ghost use Rattle.svc_left.specs.Leftover.{HasNumber, IsAwaited};
+    ghost use Rattle.svc_record.specs.Leftover.{HasNumber, IsAwaited};
 
     ghost calls: { Self → Option (List Call) } = { λ _. None };
 

@@ -1,6 +1,6 @@
-//! The real world of one service: its folder, its children, its signals and its status record.
+//! The rules of one service's world: what is written, spawned, signalled and reported, and in which order.
 //!
-//! `ChildWorld` keeps the rules of a service's world over the small trait `ChildSystem`, and is proved:
+//! `ChildWorld` keeps them over the small trait `ChildSystem`, which has the children, the papers and the clock:
 //!
 //! - No second copy of a service that still runs is started.
 //! - No signal goes to a process that may belong to somebody else.
@@ -8,46 +8,23 @@
 //! - Each start records which process the service has. Each death records how that process ended, and how many began
 //!   and ended.
 //!
-//! How the shell that sends a signal is asked for it is proved too, over the small trait `ShellProcess`. Below these
-//! traits is the system's own layer, which says nothing to contracts: `ServiceFolder`, `SystemChildren` with their
-//! `ChildReaper`, `AdoptionWatch`, `SignalShell`.
+//! The system's own children of a service are in `svc_system`.
 #![tactic(auto)]
 
-mod access;
-mod adoption;
 mod backoff;
 mod begin;
-mod child_reaper;
 mod child_system;
-mod finish;
-mod flow;
-mod folder;
-mod kill;
-mod linger;
-mod listening;
-mod neighbours;
-mod notification;
-mod output;
+mod deaths;
+mod finishes;
+mod holds;
 mod paper;
-mod processes;
-mod shell;
-mod shell_process;
-mod stat;
-mod surroundings;
-mod system;
+mod papers;
+mod readiness;
+mod starts;
 mod world;
 
-pub use adoption::AdoptionWatch;
+pub use backoff::TICKS;
 pub use begin::{Death, LastChild};
-pub use child_reaper::ChildReaper;
 pub use child_system::ChildSystem;
-pub use flow::{Flow, LoggerInput, ServiceOutput, drain, is_read};
-pub use folder::{FolderFault, Patience, ServiceFolder};
-pub use neighbours::Neighbours;
-pub use output::{OutputEnds, open_output, prepare_outputs};
 pub use paper::{Owed, Paper, Remark};
-pub use processes::OwnRun;
-pub use shell::SignalShell;
-pub use surroundings::Surroundings;
-pub use system::{Streams, SystemChildren};
 pub use world::ChildWorld;

@@ -3,7 +3,7 @@ use Rattle.std.specs.Result.{result_err}
 use Rattle.scan_table.specs.Table.{has_log, slot_at}
 use Rattle.svc_host.specs.Calls.{name_at}
 use Rattle.std.specs.Prelude.{option_copied, IfOk}
-use Rattle.svc_left.specs.Opening.{beginning}
+use Rattle.svc_record.specs.Opening.{beginning}
 use Rattle.svc_host.specs.Parts.{HostPart}
 use Rattle.svc_host.specs.Begun.{IsBegun}
 use Rattle.svc_host.proofs.Calling.{hands-one, one-behind}

@@ -1,9 +1,0 @@
-use Rattle.std.proofs.Common.{◌<◌, ℕ}
-use Rattle.svc_exit.specs.Exits.{Says}
-use Rattle.svc_exit.specs.declared.ending.Ending.TheVariants.{Status, Signal}
-use Rattle.svc_exit.proofs.reading.read_ending.Given as goal
-
--- the text is none of the lines that were tried
-abbrev pub invariant-loop-number : goal.invariant-loop-number
-invariant-loop-number l = (tried : ℕ) → tried < l.number
-    → (Says l.text l.pid l.label (Status tried) → ⊥) × (Says l.text l.pid l.label (Signal tried) → ⊥)

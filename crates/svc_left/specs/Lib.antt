@@ -1,4 +1,0 @@
-pub mod Process
-pub mod Opening
-pub mod Place
-pub mod Leftover

@@ -1,0 +1,3 @@
+pub mod Spaces
+pub mod Generations
+pub mod Moments

@@ -1,0 +1,33 @@
+//! What is in `supervise/` beside the status record: the small files about the processes of a service, and how the
+//! service begins after an earlier svscan.
+//!
+//! - `place`: the process that was started last, or that a start is intended. `process`: the process that was started
+//!   last.
+//! - `exit`: how the last process ended. `counts`: how many began and ended since svscan began.
+//! - `ready`: when the process said that it is ready. `backoff`: until when the next start waits.
+//!
+//! A function with the name of a line makes it, and one that reads it gives exactly what was written. At each start the
+//! place and the process are recorded. The next svscan reads them and finds what became of the process (`find`,
+//! `find_leftover`). With the status record it decides how the service begins (`Left::opening`): by its row, as it is
+//! wanted, or as it was left. A process that is still alive is adopted, with the machine in the record.
+#![tactic(auto)]
+
+mod counts;
+mod ending;
+mod exit;
+mod leftover;
+mod moment;
+mod opening;
+mod place;
+mod process;
+mod reading;
+
+pub use counts::{Counts, CountsText, counts_text};
+pub use ending::{Ending, ending_of, signal_name};
+pub use exit::{Exit, ExitText, exit_text};
+pub use leftover::{Intent, Leftover, Seen, find_any_here, find_leftover};
+pub use moment::{Moment, before_newline, moment_in, moment_text};
+pub use opening::{Left, Opening};
+pub use place::{PLACE_BYTES, Place, PlaceLine, first_line, place_line, read_place};
+pub use process::{BootId, Found, ProcessId, ProcessLine, find, process_line, read_process};
+pub use reading::{read_ending, read_exit};

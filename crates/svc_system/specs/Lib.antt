@@ -1,0 +1,11 @@
+pub mod Access
+pub mod Commands
+pub mod Shell
+pub mod Stats
+pub mod Left
+pub mod Settings
+pub mod Finish
+pub mod Flow
+pub mod Linger
+pub mod Adoption
+pub mod Notification
