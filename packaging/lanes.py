@@ -17,7 +17,7 @@ SECONDS = {
     "tai_status": 142, "sup_core": 204, "star_match": 40, "mlog_script": 163, "mlog_files": 81,
     "mlog_line": 82, "mlog_core": 119, "svc_mail": 91, "sup_trace": 142, "svc_station": 171, "svc_house": 117,
     "env_title": 101, "scan_table": 281, "suite_lines": 115, "suite_core": 184, "svc_relay": 43,
-    "trace_words": 40, "cmd_base": 23, "svc_record": 47, "svc_places": 20, "svc_client": 80, "svc_record": 61, "svc_world": 325,
+    "trace_words": 40, "cmd_base": 23, "svc_record": 108, "svc_places": 20, "svc_client": 80, "svc_world": 205, "svc_system": 160,
     "svc_door": 98, "svc_host": 449, "svc_maker": 260, "cmd_sim": 109, "cmd_trace": 100, "cmd_filters": 30, "cmd_help": 27,
     "cmd_envdir": 181, "cmd_multilog": 278, "cmd_svc": 120, "cmd_local": 113, "cmd_why": 339,
     "cmd_report": 152, "cmd_page": 200, "cmd_wait": 63, "svscan_rounds": 130, "cmd_svscan": 430,

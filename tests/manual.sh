@@ -117,7 +117,7 @@ is 'there are rows' yes "$([ "$rows" -gt 50 ] && echo yes)"
 while IFS= read -r text; do
   is "FORMATS has: $text" yes "$(grep -qF -- "$text" "$top/docs/FORMATS.md" && echo yes)"
 done < <({
-  cat "$top"/crates/{cmd_*,svscan_rounds,svc_world,dtools}/src/*.rt 2>/dev/null | grep -vE 'error\(|^ *//' |
+  cat "$top"/crates/{cmd_*,svscan_rounds,svc_system,dtools}/src/*.rt 2>/dev/null | grep -vE 'error\(|^ *//' |
     grep -oE '"[^"]*(unable to|still runs|still supervised|not up in|not down in|not restarted in|not wanted up|were not|are needed|not text|written again|listed again|no text|not running|no answer)[^"]*"' |
     sed -E 's/^"[: ]*//; s/(\\n)?"$//; s/[: ]*$//'
   for script in multilog envdir envuidgid setuidgid setlock softlimit pgrphack fghack svscan-run svscan-stop dtools-service; do

@@ -1,7 +1,8 @@
 //! The cells of the row of a service.
 ghost use Rattle.std.specs.Prelude.{◌≡◌, ◌++◌, decimal, OnOk};
 ghost use Rattle.std.specs.Option.{option_copied};
-ghost use Rattle.cmd_page.specs.Page.{ending_text, last_text, leads, look_class, picture_in, process_text, process_word, restarts_in, side_word};
+ghost use Rattle.cmd_page.specs.Page.{ending_text, last_text, leads, look_class, picture_in, process_text};
+ghost use Rattle.cmd_page.specs.Page.{process_word, restarts_in, side_word};
 ghost use Rattle.cmd_page.specs.Page.{span_text, state_class, state_word, status_of, unreached_word, want_word};
 ghost use Rattle.cmd_page.specs.Page.{wanted_text};
 ghost use Rattle.cmd_svc.specs.Line.{wants_up};

@@ -157,46 +157,40 @@ line_of_value sample folder (Some value) = valued_line sample folder value
 abbrev pub sample_line : Sample → Found → List ℕ
 sample_line sample found = line_of_value sample found.folder.now (value_in sample found)
 
--- the help and the type of a metric, which come before its first sample
-unfoldable pub head_text : Sample → List ℕ
-head_text sample.Supervised =
-    codes "# HELP dtools_service_supervised Whether the supervisor of the service accepts connections." ++ 10 ∷ []
-    ++ codes "# TYPE dtools_service_supervised gauge" ++ 10 ∷ []
-head_text sample.Up = codes "# HELP dtools_service_up Whether the service runs." ++ 10 ∷ []
-    ++ codes "# TYPE dtools_service_up gauge" ++ 10 ∷ []
-head_text sample.Seconds =
-    codes "# HELP dtools_service_seconds Seconds since the last start or end of its process." ++ 10 ∷ []
-    ++ codes "# TYPE dtools_service_seconds gauge" ++ 10 ∷ []
-head_text sample.Since =
-    codes "# HELP dtools_service_since_timestamp_seconds Unix time of the last start or end of its process." ++ 10 ∷ []
-    ++ codes "# TYPE dtools_service_since_timestamp_seconds gauge" ++ 10 ∷ []
-head_text (sample.InPhase phase.Starting) =
-    codes "# HELP dtools_service_phase Whether supervision of the service is in this phase." ++ 10 ∷ []
-    ++ codes "# TYPE dtools_service_phase gauge" ++ 10 ∷ []
-head_text sample.WantedUp = codes "# HELP dtools_service_wanted_up Whether the service is to be up." ++ 10 ∷ []
-    ++ codes "# TYPE dtools_service_wanted_up gauge" ++ 10 ∷ []
-head_text sample.Paused = codes "# HELP dtools_service_paused Whether the process of the service is paused." ++ 10 ∷ []
-    ++ codes "# TYPE dtools_service_paused gauge" ++ 10 ∷ []
-head_text sample.Ready =
-    codes "# HELP dtools_service_ready Whether the process of the service said that it is ready." ++ 10 ∷ []
-    ++ codes "# TYPE dtools_service_ready gauge" ++ 10 ∷ []
-head_text sample.BackingOff =
-    codes "# HELP dtools_service_backing_off Whether the next start of the service waits." ++ 10 ∷ []
-    ++ codes "# TYPE dtools_service_backing_off gauge" ++ 10 ∷ []
-head_text sample.Finishing = codes "# HELP dtools_service_finishing Whether the finish of the service runs." ++ 10 ∷ []
-    ++ codes "# TYPE dtools_service_finishing gauge" ++ 10 ∷ []
-head_text sample.Starts =
-    codes "# HELP dtools_service_starts_total Starts of its process since svscan began." ++ 10 ∷ []
-    ++ codes "# TYPE dtools_service_starts_total counter" ++ 10 ∷ []
-head_text sample.Deaths = codes "# HELP dtools_service_deaths_total Ends of its process since svscan began." ++ 10 ∷ []
-    ++ codes "# TYPE dtools_service_deaths_total counter" ++ 10 ∷ []
-head_text sample.LastStatus =
-    codes "# HELP dtools_service_last_exit_status Status of its last process that ended, if that exited." ++ 10 ∷ []
-    ++ codes "# TYPE dtools_service_last_exit_status gauge" ++ 10 ∷ []
-head_text sample.LastSignal =
-    codes "# HELP dtools_service_last_signal Signal that ended its last process that ended, if one did." ++ 10 ∷ []
-    ++ codes "# TYPE dtools_service_last_signal gauge" ++ 10 ∷ []
-head_text other = []
+-- what a metric says, in words
+abbrev pub metric_help : Sample → List ℕ
+metric_help sample.Supervised = codes "Whether the supervisor of the service accepts connections."
+metric_help sample.Up = codes "Whether the service runs."
+metric_help sample.Seconds = codes "Seconds since the last start or end of its process."
+metric_help sample.Since = codes "Unix time of the last start or end of its process."
+metric_help (sample.InPhase phase) = codes "Whether supervision of the service is in this phase."
+metric_help sample.WantedUp = codes "Whether the service is to be up."
+metric_help sample.Ready = codes "Whether the process of the service said that it is ready."
+metric_help sample.BackingOff = codes "Whether the next start of the service waits."
+metric_help sample.Finishing = codes "Whether the finish of the service runs."
+metric_help sample.Paused = codes "Whether the process of the service is paused."
+metric_help sample.Starts = codes "Starts of its process since svscan began."
+metric_help sample.Deaths = codes "Ends of its process since svscan began."
+metric_help sample.LastStatus = codes "Status of its last process that ended, if that exited."
+metric_help sample.LastSignal = codes "Signal that ended its last process that ended, if one did."
+
+-- the type of a metric: the numbers of starts and ends only rise
+abbrev pub metric_type : Sample → List ℕ
+metric_type sample.Starts = codes "counter"
+metric_type sample.Deaths = codes "counter"
+metric_type other = codes "gauge"
+
+-- the help and the type of a sample's metric
+unfoldable pub metric_head : Sample → List ℕ
+metric_head sample =
+    codes "# HELP " ++ metric_name sample ++ codes " " ++ metric_help sample
+    ++ codes "\n# TYPE " ++ metric_name sample ++ codes " " ++ metric_type sample ++ codes "\n"
+
+-- they come before the first sample of the metric
+abbrev pub head_text : Sample → List ℕ
+head_text (sample.InPhase phase.Starting) = metric_head (sample.InPhase phase.Starting)
+head_text (sample.InPhase other) = []
+head_text sample = metric_head sample
 
 -- a sample of each service that has it
 abbrev pub sample_lines : Sample → List Found → List ℕ
@@ -206,9 +200,9 @@ sample_lines sample founds = head_text sample ++ flat_map (sample_line sample) f
 abbrev pub all_samples : List Sample
 all_samples =
     sample.Supervised ∷ sample.Up ∷ sample.Seconds ∷ sample.Since ∷ sample.InPhase phase.Starting
-    ∷ sample.InPhase phase.Settling ∷ sample.InPhase phase.Up ∷ sample.InPhase phase.Down ∷ sample.InPhase phase.Resting ∷ sample.InPhase phase.Gone
-    ∷ sample.WantedUp ∷ sample.Paused ∷ sample.Ready ∷ sample.Finishing ∷ sample.BackingOff ∷ sample.Starts ∷ sample.Deaths ∷ sample.LastStatus
-    ∷ sample.LastSignal ∷ []
+    ∷ sample.InPhase phase.Settling ∷ sample.InPhase phase.Up ∷ sample.InPhase phase.Down ∷ sample.InPhase phase.Resting
+    ∷ sample.InPhase phase.Gone ∷ sample.WantedUp ∷ sample.Paused ∷ sample.Ready ∷ sample.Finishing
+    ∷ sample.BackingOff ∷ sample.Starts ∷ sample.Deaths ∷ sample.LastStatus ∷ sample.LastSignal ∷ []
 
 unfoldable pub metrics_text : List Found → List ℕ
 metrics_text founds = flat_map (λ sample. sample_lines sample founds) all_samples

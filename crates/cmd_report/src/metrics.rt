@@ -1,10 +1,10 @@
 //! What was found about services, as metrics.
 ghost use Rattle.std.specs.Prelude.{◌≡◌, ◌++◌, decimal, flat_map, IfOk, OnOk};
-ghost use Rattle.cmd_report.specs.Metrics.{label_byte, label_text, line_of_value, metrics_text, more_labels};
-ghost use Rattle.cmd_report.specs.Metrics.{sample_line, sample_lines, value_end, valued_line};
+ghost use Rattle.cmd_report.specs.Metrics.{head_text, label_byte, label_text, line_of_value, metric_head};
+ghost use Rattle.cmd_report.specs.Metrics.{metrics_text, more_labels, sample_line, sample_lines, value_end, valued_line};
 
 use crate::found::Found;
-use crate::samples::{Sample, head_text, metric_name, value_in};
+use crate::samples::{Sample, metric_help, metric_name, metric_type, value_in};
 use itoa::Buffer;
 use std::alloc::{AllocError, Allocator};
 use tai_status::{Phase, phase_name};
@@ -75,8 +75,35 @@ fn push_sample<A: Allocator>(
 ) -> Result<(), AllocError>
     ensures { OnOk result (out.new.items ≡ out.old.items ++ sample_lines sample founds.now) }
 {
-    push_text(out, head_text(sample))?;
+    push_head(out, sample)?;
     push_lines(out, sample, founds)
+}
+
+/// Writes the help and the type of a metric, if this sample is its first.
+fn push_head<A: Allocator>(out: &mut Vec<u8, A>, sample: Sample) -> Result<(), AllocError>
+    ensures { OnOk result (out.new.items ≡ out.old.items ++ head_text sample) }
+{
+    match sample {
+        Sample::InPhase(Phase::Starting) => push_metric(out, sample),
+        Sample::InPhase(_) => Ok(()),
+        _ => push_metric(out, sample),
+    }
+}
+
+/// Writes the help and the type of a sample's metric.
+#[tactic(auto, unfolding(crate::specs::Metrics::metric_head))]
+fn push_metric<A: Allocator>(out: &mut Vec<u8, A>, sample: Sample) -> Result<(), AllocError>
+    ensures { OnOk result (out.new.items ≡ out.old.items ++ metric_head sample) }
+{
+    push_text(out, "# HELP ")?;
+    push_text(out, metric_name(sample))?;
+    push_text(out, " ")?;
+    push_text(out, metric_help(sample))?;
+    push_text(out, "\n# TYPE ")?;
+    push_text(out, metric_name(sample))?;
+    push_text(out, " ")?;
+    push_text(out, metric_type(sample))?;
+    push_text(out, "\n")
 }
 
 /// Writes a sample of each service that has it.

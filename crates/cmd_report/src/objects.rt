@@ -2,7 +2,8 @@
 ghost use Rattle.std.specs.Prelude.{◌≡◌, ◌++◌, codes, IfOk, OnOk};
 ghost use Rattle.json.specs.Lex.{tokens};
 ghost use Rattle.cmd_svc.specs.Svstat.{fault_name};
-ghost use Rattle.cmd_report.specs.Json.{Adds, asked_members, course_members, boolean_member, ended_members, exiting_member, found_tokens};
+ghost use Rattle.cmd_report.specs.Json.{Adds, asked_members, course_members, boolean_member, ended_members};
+ghost use Rattle.cmd_report.specs.Json.{exiting_member, found_tokens};
 ghost use Rattle.cmd_report.specs.Json.{json_line, known_member, last_member, look_members, null_member, number_member};
 ghost use Rattle.cmd_report.specs.Json.{past_members, phase_member, pid_member, process_members, side_name};
 ghost use Rattle.cmd_report.specs.Json.{standing_members, string_member, unreached_text, unreached_members, want_name};
@@ -37,7 +38,8 @@ use tai_status::{Label, Loaded, RecordFault, View, Want, phase_name};
 /// - `since`: the Unix time of its last change of process, in whole seconds;
 /// - `starts`, `deaths`: how often a process of it was started, and died, since svscan began, or `null` if its file
 ///   `counts` does not say it;
-/// - `last`: how its last process ended, or `null` if its file `exit` does not say it. This is an object. Its members are
+/// - `last`: how its last process ended, or `null` if its file `exit` does not say it. This is an object. Its members
+///   are
 ///   the process number `pid`, the exit `status`, the number of the `signal` that ended it, and the Unix time `at` which
 ///   it was found to have ended. The status and the signal are `null` if they do not apply.
 ///

@@ -2,7 +2,7 @@
 ghost use Rattle.std.specs.Prelude.{◌≡◌};
 ghost use Rattle.tai_status.specs.Record.{flag_byte};
 ghost use Rattle.cmd_svc.specs.Line.{wants_up};
-ghost use Rattle.cmd_report.specs.Metrics.{deaths_in, head_text, is_supervised, look_value, metric_name, phase_value};
+ghost use Rattle.cmd_report.specs.Metrics.{deaths_in, is_supervised, look_value, metric_help, metric_name, metric_type, phase_value};
 ghost use Rattle.cmd_report.specs.Metrics.{signal_of, signal_of_last, standing_value, starts_in, status_of};
 ghost use Rattle.cmd_report.specs.Metrics.{backoff_in, is_finishing, ready_in, status_of_last, unix_second, value_in};
 
@@ -256,82 +256,34 @@ pub(crate) fn metric_name(sample: Sample) -> &'static str
     }
 }
 
-/// Returns the help and the type of a metric, for its first sample. They come before that sample.
-#[tactic(auto, unfolding(crate::specs::Metrics::head_text))]
-pub(crate) fn head_text(sample: Sample) -> &'static str
-    ensures { result.now ≡ head_text sample }
+/// Returns what a metric says, in words.
+pub(crate) fn metric_help(sample: Sample) -> &'static str
+    ensures { result.now ≡ metric_help sample }
 {
     match sample {
-        Sample::Supervised => {
-            "# HELP dtools_service_supervised Whether the supervisor of the service accepts connections.
-# TYPE dtools_service_supervised gauge
-"
-        }
-        Sample::Up => {
-            "# HELP dtools_service_up Whether the service runs.
-# TYPE dtools_service_up gauge
-"
-        }
-        Sample::Seconds => {
-            "# HELP dtools_service_seconds Seconds since the last start or end of its process.
-# TYPE dtools_service_seconds gauge
-"
-        }
-        Sample::Since => {
-            "# HELP dtools_service_since_timestamp_seconds Unix time of the last start or end of its process.
-# TYPE dtools_service_since_timestamp_seconds gauge
-"
-        }
-        Sample::InPhase(Phase::Starting) => {
-            "# HELP dtools_service_phase Whether supervision of the service is in this phase.
-# TYPE dtools_service_phase gauge
-"
-        }
-        Sample::InPhase(_) => "",
-        Sample::WantedUp => {
-            "# HELP dtools_service_wanted_up Whether the service is to be up.
-# TYPE dtools_service_wanted_up gauge
-"
-        }
-        Sample::Ready => {
-            "# HELP dtools_service_ready Whether the process of the service said that it is ready.
-# TYPE dtools_service_ready gauge
-"
-        }
-        Sample::BackingOff => {
-            "# HELP dtools_service_backing_off Whether the next start of the service waits.
-# TYPE dtools_service_backing_off gauge
-"
-        }
-        Sample::Finishing => {
-            "# HELP dtools_service_finishing Whether the finish of the service runs.
-# TYPE dtools_service_finishing gauge
-"
-        }
-        Sample::Paused => {
-            "# HELP dtools_service_paused Whether the process of the service is paused.
-# TYPE dtools_service_paused gauge
-"
-        }
-        Sample::Starts => {
-            "# HELP dtools_service_starts_total Starts of its process since svscan began.
-# TYPE dtools_service_starts_total counter
-"
-        }
-        Sample::Deaths => {
-            "# HELP dtools_service_deaths_total Ends of its process since svscan began.
-# TYPE dtools_service_deaths_total counter
-"
-        }
-        Sample::LastStatus => {
-            "# HELP dtools_service_last_exit_status Status of its last process that ended, if that exited.
-# TYPE dtools_service_last_exit_status gauge
-"
-        }
-        Sample::LastSignal => {
-            "# HELP dtools_service_last_signal Signal that ended its last process that ended, if one did.
-# TYPE dtools_service_last_signal gauge
-"
-        }
+        Sample::Supervised => "Whether the supervisor of the service accepts connections.",
+        Sample::Up => "Whether the service runs.",
+        Sample::Seconds => "Seconds since the last start or end of its process.",
+        Sample::Since => "Unix time of the last start or end of its process.",
+        Sample::InPhase(_) => "Whether supervision of the service is in this phase.",
+        Sample::WantedUp => "Whether the service is to be up.",
+        Sample::Ready => "Whether the process of the service said that it is ready.",
+        Sample::BackingOff => "Whether the next start of the service waits.",
+        Sample::Finishing => "Whether the finish of the service runs.",
+        Sample::Paused => "Whether the process of the service is paused.",
+        Sample::Starts => "Starts of its process since svscan began.",
+        Sample::Deaths => "Ends of its process since svscan began.",
+        Sample::LastStatus => "Status of its last process that ended, if that exited.",
+        Sample::LastSignal => "Signal that ended its last process that ended, if one did.",
+    }
+}
+
+/// Returns the type of a metric: the numbers of starts and ends only rise.
+pub(crate) fn metric_type(sample: Sample) -> &'static str
+    ensures { result.now ≡ metric_type sample }
+{
+    match sample {
+        Sample::Starts | Sample::Deaths => "counter",
+        _ => "gauge",
     }
 }

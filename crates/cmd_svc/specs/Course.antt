@@ -1,5 +1,6 @@
 -- What a service does that its status does not say, and how that is found.
-use Rattle.std.specs.Prelude.{◌≡◌, ℕ, ◌==◌, ◌-◌, ◌&&◌, Bool, true, false, not, is_some, if◌then◌else◌, List, [], ◌∷◌, ◌++◌}
+use Rattle.std.specs.Prelude.{◌≡◌, ℕ, ◌==◌, ◌-◌, ◌&&◌, Bool, true, false, not, is_some, if◌then◌else◌, List, []}
+use Rattle.std.specs.Prelude.{◌∷◌, ◌++◌}
 use Rattle.std.specs.Prelude.{codes, decimal, Option, Some, None}
 use Rattle.tai_status.specs.Extended.{Extended}
 use Rattle.tai_status.specs.Label.{Tai64n, is_earlier}
@@ -68,7 +69,8 @@ abbrev pub AsksBy : (has_ended : Bool) (folder : List ℕ) (status : Status) (co
 AsksBy true folder status course old new = AsksEnded folder status course old new
 AsksBy false folder status course old new = AsksRunning folder status course old new
 
--- The notice of the last end was read, to find whether the process of a record has ended. What it does was asked by that.
+-- The notice of the last end was read, to find whether the process of a record has ended. What it does was asked by
+-- that.
 pub record AsksProcess (folder : List ℕ) (status : Status) (course : Course) (old new : Option (List Call)) : Type 0 where
   pub exit : Option Moment
   pub mid : Option (List Call)

@@ -39,8 +39,8 @@ fn reason(why: Unreached) -> &'static [u8]
     }
 }
 
-/// Sends bytes to a service. If it can't be reached, reports that, and why, after the warning of the command that sends.
-/// Returns whether some service was not reached, this one or one before it.
+/// Sends bytes to a service. If it can't be reached, reports that, and why, after the warning of the command that
+/// sends. Returns whether some service was not reached, this one or one before it.
 pub fn serve<S: Services, E: Write>(
     services: &mut S,
     warning: &[u8],

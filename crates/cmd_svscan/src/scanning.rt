@@ -63,8 +63,8 @@ where
 }
 
 /// Makes one scan of the rows of a folder, and returns also what parts lost that ended before. That is forgotten once
-/// the scan is made. The parts of the last batch that the scan begins get their sockets after it; the maker admits those
-/// before them.
+/// the scan is made. The parts of the last batch that the scan begins get their sockets after it; the maker admits
+/// those before them.
 pub(crate) fn scan<M, R>(
     rt: R,
     alloc: Global,

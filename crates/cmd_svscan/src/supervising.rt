@@ -178,8 +178,8 @@ fn first_refusal(refused: &[svc_host::Unmade]) -> Option<PartFault> {
     }
 }
 
-/// Watches over the service until it is gone, at most for the length of a rest. The host rests until its part has ended.
-/// Keeps the trace, and admits the part to the door if it still waits for that.
+/// Watches over the service until it is gone, at most for the length of a rest. The host rests until its part has
+/// ended. Keeps the trace, and admits the part to the door if it still waits for that.
 pub(crate) fn watch<M, R>(host: &mut Host<M, R>) -> Sight
 where
     M: FolderHolder + Drop,

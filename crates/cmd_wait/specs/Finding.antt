@@ -1,5 +1,6 @@
 -- What a look at a service finds, from the results of its calls.
-use Rattle.std.specs.Prelude.{◌≡◌, ◌≤◌, ⊤, ℕ, nat_le, is_some, ◌==◌, map, Bool, true, false, not, ◌&&◌, if◌then◌else◌, List, [], ◌∷◌, ◌++◌}
+use Rattle.std.specs.Prelude.{◌≡◌, ◌≤◌, ⊤, ℕ, nat_le, is_some, ◌==◌, map, Bool, true, false, not, ◌&&◌}
+use Rattle.std.specs.Prelude.{if◌then◌else◌, List, [], ◌∷◌, ◌++◌}
 use Rattle.std.specs.Prelude.{Option, Some, None}
 use Rattle.std.specs.Prelude.{Result, Ok}
 use Rattle.std.specs.Prelude.{Err}
@@ -112,7 +113,8 @@ AsksReady true folder ready old new = ReadsNotice folder notice.Ready ready old 
 --
 -- - The service did not respond, for this reason.
 -- - Its status could not be read, and may be missing.
--- - These are the first bytes of its status. This is the age of its process, if that was asked for and the process lives.
+-- - These are the first bytes of its status. This is the age of its process, if that was asked for and the process
+--   lives.
 --   This is the text in which svscan says that a process is ready, if that was read, and what it says.
 pub data Sighting : Type 0 where
   Absent : (why : Unreached) → Sighting
@@ -146,8 +148,8 @@ calls_of_look goal folder (Shown bytes age text ready) =
 abbrev pub reached_if : Bool → Finding
 reached_if reached = if reached then Reached else Waiting
 
--- A service that is not supervised is what `-x` waits for. Otherwise it is waited for until it is supervised, or it can't
--- be waited for.
+-- A service that is not supervised is what `-x` waits for. Otherwise it is waited for until it is supervised, or it
+-- can't be waited for.
 abbrev pub unsupervised_in : WaitState → (awaits_supervision : Bool) → Finding
 unsupervised_in state.Unsupervised awaits_supervision = Reached
 unsupervised_in other true = Waiting

@@ -17,7 +17,8 @@ use Rattle.cmd_wait.specs.declared.finding.Mark.{Mark}
 use Rattle.cmd_wait.specs.declared.options.Options.{Options}
 use Rattle.cmd_wait.specs.declared.marking.Purpose.TheVariants.{Restarts}
 
--- the name of the command, as its reports begin; and its warning about a service that can't be reached, up to the folder
+-- the name of the command, as its reports begin; and its warning about a service that can't be reached, up to the
+-- folder
 abbrev pub restart_name : List ℕ
 restart_name = codes "restart: "
 
@@ -42,8 +43,8 @@ abbrev pub AfterSending : (missed : Bool) → (order : Order) (marked : List Awa
 AfterSending true order marked status old new = (status ≡ 111) × (new ≡ old)
 AfterSending false order marked status old new = WaitsFor restart_name order marked status old new
 
--- Each service got its mark, and is wanted up. Those that have a process were sent the byte, once, and each one that was
--- not reached is reported. Then they are waited for.
+-- Each service got its mark, and is wanted up. Those that have a process were sent the byte, once, and each one that
+-- was not reached is reported. Then they are waited for.
 pub record SendsThenWaits (order : Order) (status : ℕ) (old new : Scene) : Type 0 where
   pub marked : List Awaited
   pub calls : Option (List Call)

@@ -1,5 +1,5 @@
--- What the words of `wait` ask for: `wait [-u|-U|-d|-x|-r] [-t SECONDS] SERVICE..`, with the options in either order, and
--- with or without a `--` after them. Words are lists of bytes.
+-- What the words of `wait` ask for: `wait [-u|-U|-d|-x|-r] [-t SECONDS] SERVICE..`, with the options in either order,
+-- and with or without a `--` after them. Words are lists of bytes.
 use Rattle.std.specs.Prelude.{◌≡◌, ◌≢◌, ℕ, ◌<◌, ◌^◌, if◌then◌else◌, List, [], ◌∷◌, codes, bytes_eq, decimal, Option}
 use Rattle.std.specs.Prelude.{Some}
 use Rattle.std.specs.Prelude.{None, is_some, unwrap_or, Bool, true, false}

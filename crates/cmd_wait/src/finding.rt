@@ -106,8 +106,8 @@ fn absent_finding(goal: Goal, why: Unreached) -> Finding
     }
 }
 
-/// Returns what is found about a service whose status can't be read. `is_missing` says whether it has none: svscan begins
-/// to supervise a service just before it writes the first one.
+/// Returns what is found about a service whose status can't be read. `is_missing` says whether it has none: svscan
+/// begins to supervise a service just before it writes the first one.
 fn unread_finding(goal: Goal, is_missing: bool) -> Finding
     ensures { result ≡ unread_finding goal is_missing }
 {
@@ -253,7 +253,8 @@ fn record_finding(
 }
 
 /// Looks at a service: whether it is supervised, and then its status. If the service should be up and its record says
-/// that it is, also looks how long its process has lived. If it should be ready, also reads whether its process said so.
+/// that it is, also looks how long its process has lived. If it should be ready, also reads whether its process said
+/// so.
 pub(crate) fn look<S: Services>(services: &mut S, goal: Goal, entry: &Entry<'_>) -> Finding
     ensures { Finds goal (service entry.now.folder.now entry.now.mark) result
         (S.calls services.old) (S.calls services.new) }

@@ -1,8 +1,8 @@
 //! The commands `wait` and `restart`: they return once services are up, down, no longer supervised, or restarted.
 //!
-//! [`read_options`] reads the words of `wait`, and [`Finding`] is what a look finds about a service. [`run_wait`] is the
-//! command, over a [`Pace`]: the clock that it reads, and how it rests. [`run_restart`] also ends the processes of the
-//! services.
+//! [`read_options`] reads the words of `wait`, and [`Finding`] is what a look finds about a service. [`run_wait`] is
+//! the command, over a [`Pace`]: the clock that it reads, and how it rests. [`run_restart`] also ends the processes
+//! of the services.
 #![tactic(auto)]
 
 mod finding;

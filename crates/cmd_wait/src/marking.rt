@@ -109,8 +109,8 @@ fn first_look<S: Services>(
     shown_mark(purpose, &read)
 }
 
-/// Looks at each service for the first time, once, in order, and gives it its mark. The first one that can have none ends
-/// that, and is the fault.
+/// Looks at each service for the first time, once, in order, and gives it its mark. The first one that can have none
+/// ends that, and is the fault.
 pub(crate) fn mark_each<'a, S: Services, A: Allocator>(
     services: &mut S,
     purpose: Purpose,

@@ -103,10 +103,10 @@ fn restart_and_tell<R: Wait, S: Services, P: Pace, A: Allocator, E: Write>(
     status
 }
 
-/// The command `restart [-t SECONDS] SERVICE..`: sends TERM and CONT to each service that has a process, as `svc -t` does,
-/// and returns once each service is up with another process, by the rule of `wait -u`. It first looks at each service.
-/// A service that is not wanted up is refused, and then nothing is sent to any service. At the end, it reports for each
-/// folder that does not exist why.
+/// The command `restart [-t SECONDS] SERVICE..`: sends TERM and CONT to each service that has a process, as `svc -t`
+/// does, and returns once each service is up with another process, by the rule of `wait -u`. It first looks at each
+/// service. A service that is not wanted up is refused, and then nothing is sent to any service. At the end, it
+/// reports for each folder that does not exist why.
 ///
 /// With `-t`, a service that is not supervised is waited for too, and the time counts from when all was sent.
 ///
@@ -116,7 +116,8 @@ fn restart_and_tell<R: Wait, S: Services, P: Pace, A: Allocator, E: Write>(
 /// - 99 if the time is over, with a line on `faults` for each service that is left;
 /// - 100 if a service is not wanted up, and for wrong words;
 /// - 102 if a service is not supervised, or no longer supervised; not with `-t`;
-/// - 111 if this user may not look at a service, if a status can't be read or is not a record, and for a lack of memory;
+/// - 111 if this user may not look at a service, if a status can't be read or is not a record, and for a lack of
+///   memory;
 /// - 111 if a service takes no connection at the first look, or was not reached when it was sent TERM.
 pub fn run_restart<R: Wait, S: Services, P: Pace, A: Allocator, E: Write>(
     rt: &R,

@@ -56,8 +56,8 @@ fn fault_status(fault: WaitFault) -> u8
     }
 }
 
-/// Reports that a service can't be waited for, and returns the exit status for that. The name of the command includes its
-/// `: `.
+/// Reports that a service can't be waited for, and returns the exit status for that. The name of the command includes
+/// its `: `.
 pub(crate) fn report_failure<E: Write>(
     command: &[u8],
     failure: &Failure<'_>,

@@ -116,10 +116,11 @@ fn wait_and_tell<R: Wait, S: Services, P: Pace, A: Allocator, E: Write>(
     status
 }
 
-/// The command `wait [-u|-d|-x|-r] [-t SECONDS] SERVICE..`: returns once each service is up and settled, with a process
-/// that has lived for two seconds; or down (`-d`); or no longer supervised (`-x`). With `-r` it returns once each one is
-/// up, with another process than the one that a first look saw. It looks at them in rounds, and at each one until that was found so once: what
-/// happens to it later is not seen. At the end, it reports for each folder that does not exist why.
+/// The command `wait [-u|-d|-x|-r] [-t SECONDS] SERVICE..`: returns once each service is up and settled, with a
+/// process that has lived for two seconds; or down (`-d`); or no longer supervised (`-x`). With `-r` it returns once
+/// each one is up, with another process than the one that a first look saw. It looks at them in rounds, and at each
+/// one until that was found so once: what happens to it later is not seen. At the end, it reports for each folder
+/// that does not exist why.
 ///
 /// A round follows the one before it after 45 milliseconds, for a second after something changed in one of their
 /// folders `supervise`. It also follows soon after such a change, and otherwise after a second. With `-t`, the last

@@ -158,8 +158,8 @@ IsDrawing times false content status now drawn = drawn ≡ drawing.Unasked
 IsDrawing times true None status now drawn = drawn ≡ drawing.Untraced
 IsDrawing times true (Some content) status now drawn = IsPictureIn times content status now drawn
 
--- The bytes that were read are this record, and the service is normally up if no file `down` was found. Then it was sought
--- what it does that the record does not say.
+-- The bytes that were read are this record, and the service is normally up if no file `down` was found. Then it was
+-- sought what it does that the record does not say.
 pub record ReachesStanding (folder : List ℕ) (loaded : Loaded) (normally_up : Bool) (course : Course)
     (past now : Option (List Call)) : Type 0 where
   pub bytes : List ℕ
@@ -183,7 +183,8 @@ pub record ReachesNobody (folder : List ℕ) (absence : Absence) (past now : Opt
   pub asked : Extended past now (Reached folder (Some why) ∷ SoughtFolder folder looked ∷ [])
 
 -- What was asked of the service in a folder, with the results: whether it is supervised, and only then its status. If
--- that is a record, its file `down` was looked for, and it was sought what the service does that the record does not say.
+-- that is a record, its file `down` was looked for, and it was sought what the service does that the record does not
+-- say.
 abbrev pub Reaches : (folder : List ℕ) → Reach → (past now : Option (List Call)) → Type 0
 Reaches folder (reach.Absent absence) past now = ReachesNobody folder absence past now
 Reaches folder reach.Unread past now = Extended past now (Reached folder None ∷ ReadStatus folder None ∷ [])
@@ -191,9 +192,9 @@ Reaches folder (reach.Bad cause) past now = ReachesBad folder cause past now
 Reaches folder (reach.Standing loaded normally_up course) past now =
     ReachesStanding folder loaded normally_up course past now
 
--- The trace of a service was read, then the clock, once, and then the file `exit`. Its state is said from its record, that
--- trace and this reading, and the last end of a process from that trace and that file. A timeline is drawn if it is asked
--- for.
+-- The trace of a service was read, then the clock, once, and then the file `exit`. Its state is said from its record,
+-- that trace and this reading, and the last end of a process from that trace and that file. A timeline is drawn if it
+-- is asked for.
 pub record FindsStanding (k : Knowledge) (timeline : Bool) (folder : List ℕ) (loaded : Loaded) (normally_up : Bool)
     (course : Course) (old new : Sight) (s : Standing) : Type 0 where
   pub content : Option Content

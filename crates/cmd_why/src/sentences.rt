@@ -458,7 +458,8 @@ fn push_end<A: Allocator>(
     status: &View,
     last: Option<&LastEnd>,
 ) -> Result<(), AllocError>
-    ensures { OnOk result (string_bytes out.new ≡ string_bytes out.old ++ end_sentence status.now (option_copied last.entry)) }
+    ensures { OnOk result (string_bytes out.new
+        ≡ string_bytes out.old ++ end_sentence status.now (option_copied last.entry)) }
 {
     match last {
         Some(end) => {

@@ -6,7 +6,8 @@ ghost use Rattle.tai_status.specs.Counted.{Reports, Wrote, Works};
 ghost use Rattle.cmd_svc.specs.Words.{texts};
 ghost use Rattle.cmd_why.specs.Facts.{facts_of};
 ghost use Rattle.cmd_why.specs.Why.{found_text, is_unread, why_report, FindsStanding, IsDrawing};
-ghost use Rattle.cmd_why.specs.Why.{IsPicture, IsTraceOf, Looks, LooksInPart, MayReadExit, Reaches, ReadsExit, ShowEnds};
+ghost use Rattle.cmd_why.specs.Why.{IsPicture, IsTraceOf, Looks, LooksInPart, MayReadExit, Reaches, ReadsExit};
+ghost use Rattle.cmd_why.specs.Why.{ShowEnds};
 ghost use Rattle.cmd_why.specs.Why.{ShowsEach, ShowsNot};
 ghost use Rattle.cmd_why.specs.Why.{ShowsOne, ShowsUpTo, WhyEnds, WritesNot};
 
@@ -47,8 +48,8 @@ pub(crate) enum Reach {
     Standing(Loaded, bool, Course),
 }
 
-/// Asks the service in a folder whether it is supervised, then for its status, then for its file `down`, then for what it
-/// does that its status does not say. The first of these that fails ends that.
+/// Asks the service in a folder whether it is supervised, then for its status, then for its file `down`, then for
+/// what it does that its status does not say. The first of these that fails ends that.
 fn reach_service<S: Services>(services: &mut S, folder: &str) -> Reach
     ensures { Reaches folder.now result (S.calls services.old) (S.calls services.new) }
 {

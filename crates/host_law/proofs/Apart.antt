@@ -10,9 +10,11 @@ use Rattle.sup_trace.proofs.Lists.{AllByRecursion-joined}
 use Rattle.scan_table.specs.declared.part.PartId.{PartId}
 use Rattle.scan_table.specs.declared.part.Role.{Role}
 use Rattle.scan_table.specs.Index.{IsNumbered}
-use Rattle.scan_table.specs.Scan.{in_turn, lives_from, need, new_slot, new_slots, new_slots_at, restarts, restarts_at, slot_of, starts}
+use Rattle.scan_table.specs.Scan.{in_turn, lives_from, need, new_slot, new_slots, new_slots_at, restarts}
+use Rattle.scan_table.specs.Scan.{restarts_at, slot_of, starts}
 use Rattle.scan_table.specs.Scan.{is_refused}
-use Rattle.scan_table.specs.Slots.{Row, SlotState, eligible, ended_roles, ids_of as slot_ids, is_name, is_pair, roles_of}
+use Rattle.scan_table.specs.Slots.{Row, SlotState, eligible, ended_roles, ids_of as slot_ids, is_name, is_pair}
+use Rattle.scan_table.specs.Slots.{roles_of}
 use Rattle.suite_core.specs.Parts.{is_part}
 use Rattle.suite_core.proofs.Names.{is_part-later, is_part-same}
 use Rattle.host_law.specs.Whole.{AreApart}

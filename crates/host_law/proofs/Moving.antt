@@ -23,7 +23,8 @@ use Rattle.suite_core.proofs.Runs.{IsSuite-at}
 use Rattle.svc_host.specs.Parts.{HostPart, history_of}
 use Rattle.svc_host.specs.Rounds.{HostState}
 use Rattle.svc_host.specs.HostRun.{OneHas, HasHeard, HasEnded, IsAsKnown, AreAsKnown}
-use Rattle.host_law.specs.Whole.{Turn, Takes, turned_along, AllAccepted, before_end, told, IsToldOf, IsTold, AreApart, ids_of}
+use Rattle.host_law.specs.Whole.{Turn, Takes, turned_along, AllAccepted, before_end, told, IsToldOf, IsTold}
+use Rattle.host_law.specs.Whole.{AreApart, ids_of}
 use Rattle.host_law.specs.Whole.{StandsFor, Follows}
 use Rattle.host_law.proofs.Lists.{after_middle, all_both, before_middle, middle_of, others_after, others_before}
 use Rattle.host_law.proofs.Lists.{same_names, with_middle}

@@ -1,5 +1,6 @@
 -- A scan of a host is some turns of each suite that stands for it.
-use Rattle.std.proofs.Common.{◌≡◌, ℕ, ◌+◌, ◌<◌, ◌≤◌, zero, suc, Bool, true, false, not, List, [], ◌∷◌, ◌++◌, map, length, refl, sym}
+use Rattle.std.proofs.Common.{◌≡◌, ℕ, ◌+◌, ◌<◌, ◌≤◌, zero, suc, Bool, true, false, not, List, [], ◌∷◌, ◌++◌}
+use Rattle.std.proofs.Common.{map, length, refl, sym}
 use Rattle.std.proofs.Common.{subst, ap, ◌∙◌, Option, Some, None, if◌then◌else◌, arith}
 use Rattle.std.specs.List.{All, AllByRecursion, filter, list_any}
 use Rattle.std.proofs.lemmas.List.{map-append}
@@ -21,7 +22,8 @@ use Rattle.suite_lines.specs.declared.event.SuiteEvent.TheVariants.{Scan, At}
 use Rattle.suite_core.specs.Parts.{is_part, trace_of}
 use Rattle.suite_core.specs.Places.{IsSuite}
 use Rattle.suite_core.specs.Run.{is_taken_away}
-use Rattle.suite_core.specs.Suite.{SuiteState, Beginning, IsSuiteEvent, fault_of_scan, opening, scan_restarts, scan_starts}
+use Rattle.suite_core.specs.Suite.{SuiteState, Beginning, IsSuiteEvent, fault_of_scan, opening, scan_restarts}
+use Rattle.suite_core.specs.Suite.{scan_starts}
 use Rattle.suite_core.specs.Suite.{suite_scanned}
 use Rattle.suite_core.proofs.Begins.{begins-as-rows-say}
 use Rattle.suite_core.proofs.Names.{is_part-later}

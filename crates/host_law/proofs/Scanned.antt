@@ -1,5 +1,6 @@
 -- A scan of a host is some turns of a suite.
-use Rattle.std.proofs.Common.{◌≡◌, ℕ, ◌+◌, ◌<◌, ◌≤◌, zero, suc, Bool, true, false, not, List, [], ◌∷◌, ◌++◌, map, length, refl, sym}
+use Rattle.std.proofs.Common.{◌≡◌, ℕ, ◌+◌, ◌<◌, ◌≤◌, zero, suc, Bool, true, false, not, List, [], ◌∷◌, ◌++◌}
+use Rattle.std.proofs.Common.{map, length, refl, sym}
 use Rattle.std.proofs.Common.{subst, ap, ◌∙◌, Option, Some, None, if◌then◌else◌, arith, append_assoc}
 use Rattle.std.specs.List.{All, AllByRecursion, filter}
 use Rattle.std.specs.Option.{option_map}

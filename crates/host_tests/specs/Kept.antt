@@ -5,7 +5,8 @@ use Rattle.scan_table.specs.Slots.{Row}
 use Rattle.scan_table.specs.Table.{new_table}
 use Rattle.svc_host.specs.declared.host.HostOut.{HostOut}
 use Rattle.svc_host.specs.Rounds.{HostState, IsScanned}
-use Rattle.svc_host.specs.Calls.{Call, MadePart, MadePair, KeptTrace, EndedPart, ForgotSlot, WatchedOutputs, EndedOutput}
+use Rattle.svc_host.specs.Calls.{Call, MadePart, MadePair, KeptTrace, EndedPart, ForgotSlot, WatchedOutputs}
+use Rattle.svc_host.specs.Calls.{EndedOutput}
 use Rattle.svc_host.specs.Calls.{AskedIsRead, CountedLost}
 use Rattle.host_tests.specs.declared.kept_calls.Asked.{Asked}
 use Rattle.host_tests.specs.declared.kept_calls.Asked.TheVariants as asked

@@ -1,6 +1,8 @@
 -- What a timer knows of its mailbox after a post that was refused, and how its moments follow one another.
-use Rattle.std.proofs.Common.{◌≡◌, ◌≤◌, ℕ, ◌+◌, Bool, true, false, List, [], ◌∷◌, ◌++◌, refl, sym, ap, subst, ◌∙◌, inl, inr}
-use Rattle.std.specs.Prelude.{Result, Ok, Err, OnErr, IfErr, Option, None, Some, length, is_none, ◌&&◌, codes, MatchBool, if◌then◌else◌}
+use Rattle.std.proofs.Common.{◌≡◌, ◌≤◌, ℕ, ◌+◌, Bool, true, false, List, [], ◌∷◌, ◌++◌, refl, sym, ap, subst}
+use Rattle.std.proofs.Common.{◌∙◌, inl, inr}
+use Rattle.std.specs.Prelude.{Result, Ok, Err, OnErr, IfErr, Option, None, Some, length, is_none, ◌&&◌, codes}
+use Rattle.std.specs.Prelude.{MatchBool, if◌then◌else◌}
 use Rattle.std.specs.Result.{is_err}
 use Rattle.sup_core.specs.declared.event.Event.{Event}
 use Rattle.svc_mail.specs.declared.sender.Sender.{Sender}
@@ -8,7 +10,8 @@ use Rattle.svc_mail.specs.Ends.{IsSameSender, heard_by, posted, seen_by}
 use Rattle.svc_mail.specs.Ends.{WasFull as SenderWasFull}
 use Rattle.svc_host.specs.Kills.{Concludes, Heeds, HeedsAll, KeepsTime, Looks, Moment, Timer, TimerRun, events_of}
 use Rattle.svc_host.specs.Kills.{Heeded, Looked, LooksAt, asks_to_go, begins_asking, count_askings, count_open, is_due}
-use Rattle.svc_host.specs.Kills.{BeginsAsking, ConcludesOne, OnceForEachAsking, after_seconds, ends_asking, is_reached, with_asking}
+use Rattle.svc_host.specs.Kills.{BeginsAsking, ConcludesOne, OnceForEachAsking, after_seconds, ends_asking}
+use Rattle.svc_host.specs.Kills.{is_reached, with_asking}
 use Rattle.svc_host.specs.declared.kill.Asking.{Asking}
 use Rattle.std.proofs.lemmas.List.{append-nil, append_assoc, length-append}
 use native.Mathlib.Omega.{arith}

@@ -16,7 +16,8 @@ use Rattle.svc_host.specs.declared.ending.EndStep.TheVariants.{Stop, Exit, Wait}
 use Rattle.svc_host.specs.Calls.{Call}
 use Rattle.svc_host.specs.Ending.{EndSteps, EndsNext, IsEndStep, PostsDown, PostsExit, PostsStep, next_step}
 use Rattle.svc_host.specs.HostRun.{AreAsKnown, CameToBe, Ends, Hears, HostRun, IsAsKnown, Move, Runs, Scans, Stays}
-use Rattle.svc_host.specs.Parts.{AreEach, AreHeard, HasPosted, HostPart, IsHeard, IsPost, Tells, history_of, service_runs}
+use Rattle.svc_host.specs.Parts.{AreEach, AreHeard, HasPosted, HostPart, IsHeard, IsPost, Tells, history_of}
+use Rattle.svc_host.specs.Parts.{service_runs}
 use Rattle.svc_host.specs.Parts.{without_loss}
 use Rattle.svc_host.specs.Rounds.{AreCollected, AreReaped, HostState, IsReaped, IsScanned, after_ends}
 use Rattle.svc_host.proofs.Going.{each_same, each_so, each_then, one_changes, tells_none, tells_then}

@@ -1,5 +1,6 @@
 -- When a service that was asked to go gets the control byte `k`.
-use Rattle.std.specs.Prelude.{◌≡◌, ◌≤◌, ◌⊎◌, ℕ, length, ◌+◌, ◌*◌, ◌-◌, ◌^◌, ◌&&◌, ◌||◌, min, nat_le, nat_lt, Bool, true, false}
+use Rattle.std.specs.Prelude.{◌≡◌, ◌≤◌, ◌⊎◌, ℕ, length, ◌+◌, ◌*◌, ◌-◌, ◌^◌, ◌&&◌, ◌||◌, min, nat_le, nat_lt}
+use Rattle.std.specs.Prelude.{Bool, true, false}
 use Rattle.std.specs.Prelude.{if◌then◌else◌, List, [], ◌∷◌, ◌++◌, codes, is_none, Option, None, Some, MatchBool}
 use Rattle.svc_mail.specs.declared.sender.Sender.{Sender}
 use Rattle.tai_status.specs.declared.record.Want.{Want}

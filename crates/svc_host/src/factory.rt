@@ -2,7 +2,8 @@
 ghost use Rattle.std.specs.Prelude.{◌≡◌, ◌≤◌, ◌<◌, IfOk, MatchBool, Some, length};
 ghost use Rattle.std.specs.Result.{result_err};
 ghost use Rattle.svc_house.specs.Calls.{MadeWhileKept};
-ghost use Rattle.svc_host.specs.Calls.{AsksByName, AsksPart, ForgotSlot, HandsOutNone, HandsOutOne, HandsTrace, KeptTrace};
+ghost use Rattle.svc_host.specs.Calls.{AsksByName, AsksPart, ForgotSlot, HandsOutNone, HandsOutOne, HandsTrace};
+ghost use Rattle.svc_host.specs.Calls.{KeptTrace};
 ghost use Rattle.svc_host.specs.Calls.{StartsIfPair, StartsPair, has_pair, opening_in, pairs_without};
 ghost use Rattle.svc_record.specs.Opening.{beginning};
 ghost use Rattle.scan_table.specs.Scan.{AreRising};

@@ -352,7 +352,8 @@ fn end_pair<M: Maker + Drop, R: Runtime>(
 }
 
 impl<M: Maker + Drop, R: Runtime> Host<M, R> {
-    ghost use Rattle.std.specs.Prelude.{◌≡◌, ◌↔◌, ◌<◌, ◌≤◌, [], Err, IfOk, IfErr, IfSome, OnErr, MatchOption, true, false};
+    ghost use Rattle.std.specs.Prelude.{◌≡◌, ◌↔◌, ◌<◌, ◌≤◌, [], Err, IfOk, IfErr, IfSome, OnErr, MatchOption};
+    ghost use Rattle.std.specs.Prelude.{true, false};
     ghost use Rattle.std.specs.Prelude.{length, map, option_copied, option_map, slice_index_or};
     ghost use Rattle.std.specs.Fn.{FnOnceReturnsAtMut};
     ghost use Rattle.scan_table.specs.Table.{after_end, name_of, new_table, slot_at};

@@ -75,8 +75,8 @@ fn over(asking: Option<Asking>) -> Option<Asking>
     })
 }
 
-/// Returns the nanoseconds until a millisecond after a time, or the greatest number if there are more. Both times are in
-/// milliseconds.
+/// Returns the nanoseconds until a millisecond after a time, or the greatest number if there are more. Both times are
+/// in milliseconds.
 fn rest_until(time: Option<u128>, now: u64) -> Option<u64>
     ensures { result ≡ rest_until time now }
 {

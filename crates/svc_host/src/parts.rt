@@ -1,5 +1,6 @@
 //! The parts that the host has, as a list.
-ghost use Rattle.std.specs.Prelude.{◌≡◌, ◌<◌, ◌++◌, ◌↔◌, [], ◌∷◌, IsTrue, Err, IfOk, OnOk, OnErr, MatchOption, length, map};
+ghost use Rattle.std.specs.Prelude.{◌≡◌, ◌<◌, ◌++◌, ◌↔◌, [], ◌∷◌, IsTrue, Err, IfOk, OnOk, OnErr, MatchOption};
+ghost use Rattle.std.specs.Prelude.{length, map};
 ghost use Rattle.std.specs.Prelude.{false, slice_index_or};
 ghost use Rattle.sup_core.specs.History.{state_of};
 ghost use Rattle.std.specs.List.{All, list_any};

@@ -1,6 +1,7 @@
 -- The parts of services over folders, and what each call of their maker does.
 use Rattle.std.specs.Prelude.{◌≡◌, ◌≢◌, ◌<◌, ◌⊎◌, ℕ, Bool, true, false, List, [], ◌∷◌, ◌++◌, codes, length}
-use Rattle.std.specs.Prelude.{◌+◌, ◌-◌, ◌^◌, min, remove, slice_index_or, Option, Some, None, MatchOption, Result, Ok, Err}
+use Rattle.std.specs.Prelude.{◌+◌, ◌-◌, ◌^◌, min, remove, slice_index_or, Option, Some, None, MatchOption}
+use Rattle.std.specs.Prelude.{Result, Ok, Err}
 use Rattle.std.specs.Prelude.{MatchResult, option_map}
 use Rattle.std.specs.Result.{result_err, result_ok}
 use Rattle.std.specs.Arc.{arc_value}

@@ -32,8 +32,8 @@ pub record MakesPart (name : List ℕ) (part : PartId) (opening : Opening) (old 
   pub admits : AdmitsBatch old middle
   pub sets_up : SetsUp name part None (Some opening) middle new
 
--- A part was not made, and the host gets this fault, which says why it was not set up. The parts before it were admitted
--- if they are a batch.
+-- A part was not made, and the host gets this fault, which says why it was not set up. The parts before it were
+-- admitted if they are a batch.
 pub record FailsToMake (name : List ℕ) (part : PartId) (fault : PartFault) (old new : Making) : Type 0 where
   pub failure : MakeFault
   pub is : fault ≡ part_fault failure

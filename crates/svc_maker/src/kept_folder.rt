@@ -13,8 +13,8 @@ use svc_host::{PartFault, Unmade};
 use svc_house::ControlSender;
 use tai_status::Cause;
 
-/// How many parts may have begun and wait to be admitted to the door, before another part is made. A start takes less than
-/// two milliseconds, so that a service is served within 100 ms after its start, however many there are.
+/// How many parts may have begun and wait to be admitted to the door, before another part is made. A start takes less
+/// than two milliseconds, so that a service is served within 100 ms after its start, however many there are.
 const BATCH: usize = 32;
 
 /// The folder of a part, open and locked. Contracts see the path through which it was opened (`path`).

@@ -1,8 +1,9 @@
 //! The resources of the parts of services, over real folders.
 //!
-//! A `FolderMaker` opens the folder of each part of a host (`svc_host`) and makes its world (`svc_world`). It admits
-//! the parts of a round to the door (`svc_door`) once all have begun. For a pair it makes the output of the service and
-//! the pipe of its logger. Contracts see it as `Making` (specs/Making), over the small trait `PartSystem`:
+//! A `FolderMaker` opens the folder of each part of a host (`svc_host`) and makes its world (`svc_world` over
+//! `svc_system`). It admits the parts of a round to the door (`svc_door`) once all have begun. For a pair it makes
+//! the output of the service and the pipe of its logger. Contracts see it as `Making` (specs/Making), over the small
+//! trait `PartSystem`:
 //!
 //! - The maker keeps a part exactly if its folder was opened and locked, and its world was made. If a step fails, what
 //!   was made before it is taken back.

@@ -151,9 +151,9 @@ where
     type Outlets = PairOutlets;
 
     /// Keeps a part exactly if its folder was opened and locked, and its world was made; then the part waits to be
-    /// admitted to the door. Parts that wait already are admitted first, if they are a batch. The part begins as what an
-    /// earlier svscan left in that folder says. The children of a pair have its pipes, once `pair` has made them for the
-    /// slot.
+    /// admitted to the door. Parts that wait already are admitted first, if they are a batch. The part begins as what
+    /// an earlier svscan left in that folder says. The children of a pair have its pipes, once `pair` has made them
+    /// for the slot.
     fn part(
         &mut self,
         name: &str,

@@ -87,10 +87,10 @@ pub trait PartSystem {
         ensures calls { MadeWhileKept calls (FoundLeft (Self.Folder.path folder.now) result) self.old self.new }
         ensures process { IsLiving result.process };
 
-    /// Makes the world of the service in a folder in which this was left, and the reaper of its processes. A fault says
-    /// why they can't be made. A process that is still alive is adopted. Each child gets copies of these ends of pipes
-    /// as standard input and output, and svscan's own if there is none. The ends are shared. The notifier is notified if there is news.
-    /// Messages about the service use this name.
+    /// Makes the world of the service in a folder in which this was left, and the reaper of its processes. A fault
+    /// says why they can't be made. A process that is still alive is adopted. Each child gets copies of these ends of
+    /// pipes as standard input and output, and svscan's own if there is none. The ends are shared. The notifier is
+    /// notified if there is news. Messages about the service use this name.
     fn world(
         &mut self,
         folder: &Self::Folder,

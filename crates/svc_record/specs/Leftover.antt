@@ -1,5 +1,6 @@
 -- What is left over of a start that an earlier svscan intended, among the processes of the system.
-use Rattle.std.specs.Prelude.{◌≡◌, ◌<◌, ⊤, ◌==◌, ◌&&◌, ◌||◌, ℕ, zero, suc, Bool, true, false, not, if◌then◌else◌, List, find}
+use Rattle.std.specs.Prelude.{◌≡◌, ◌<◌, ⊤, ◌==◌, ◌&&◌, ◌||◌, ℕ, zero, suc, Bool, true, false, not}
+use Rattle.std.specs.Prelude.{if◌then◌else◌, List, find}
 use Rattle.std.specs.Prelude.{is_none, nat_le, Option, Some, None}
 use Rattle.std.specs.List.{list_any}
 use Rattle.std.specs.Option.{option_map_or}

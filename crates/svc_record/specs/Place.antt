@@ -1,5 +1,6 @@
 -- The place of a service: the process that was started last, or that one is about to be started, and what is wanted.
-use Rattle.std.specs.Prelude.{◌≡◌, ◌<◌, ◌+◌, ◌^◌, ◌==◌, ◌&&◌, ◌||◌, ℕ, Bool, true, false, not, if◌then◌else◌, List, ◌++◌, ◌∷◌, codes}
+use Rattle.std.specs.Prelude.{◌≡◌, ◌<◌, ◌+◌, ◌^◌, ◌==◌, ◌&&◌, ◌||◌, ℕ, Bool, true, false, not, if◌then◌else◌}
+use Rattle.std.specs.Prelude.{List, ◌++◌, ◌∷◌, codes}
 use Rattle.std.specs.Prelude.{decimal, length, position, take, Option, Some, None}
 use Rattle.std.specs.Borrow.{Bor}
 use Rattle.tai_status.specs.declared.record.Want.{Want}

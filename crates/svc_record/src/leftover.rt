@@ -1,6 +1,7 @@
 //! What is left over of a start with a process that was not recorded.
 ghost use Rattle.std.specs.Prelude.{◌≡◌, option_copied};
-ghost use Rattle.svc_record.specs.Leftover.{find_any_here, find_leftover, first_here, first_root, first_stray, has_other_root};
+ghost use Rattle.svc_record.specs.Leftover.{find_any_here, find_leftover, first_here, first_root, first_stray};
+ghost use Rattle.svc_record.specs.Leftover.{has_other_root};
 ghost use Rattle.svc_record.specs.Leftover.{has_others_there, if_new, is_above_here};
 ghost use Rattle.svc_record.specs.Leftover.{is_known, is_neighbours, is_new, is_open, is_root, is_stray, is_sure};
 ghost use Rattle.svc_record.specs.Leftover.{leads, may_be_started};

@@ -1,5 +1,6 @@
 //! A line with the number of a process at the beginning and a time at the end.
-ghost use Rattle.std.specs.Prelude.{◌≡◌, ◌<◌, ◌^◌, ◌++◌, ◌∷◌, [], ℕ, List, decimal, length, option_copied, true, is_none};
+ghost use Rattle.std.specs.Prelude.{◌≡◌, ◌<◌, ◌^◌, ◌++◌, ◌∷◌, [], ℕ, List, decimal, length, option_copied};
+ghost use Rattle.std.specs.Prelude.{true, is_none};
 ghost use Rattle.std.specs.Prelude.{Some, IfSome};
 ghost use Rattle.sup_core.specs.Reading.{fields};
 ghost use Rattle.tai_status.specs.Label.{IsLabel, Tai64n, label_text};
@@ -58,7 +59,8 @@ pub fn before_newline(text: &[u8]) -> Option<&[u8]>
 /// Returns the last bytes of a text, as many as a label has.
 fn last_bytes(text: &[u8]) -> Option<&[u8]>
     ensures found { IfSome result (λ last. (front : List ℕ) × (text.now ≡ front ++ last.now)) }
-    ensures only { (front last : List ℕ) → length last ≡ 25 → text.now ≡ front ++ last → option_copied result ≡ Some last }
+    ensures only { (front last : List ℕ) → length last ≡ 25 → text.now ≡ front ++ last
+        → option_copied result ≡ Some last }
 {
     let at = text.len().checked_sub(LABEL_BYTES)?;
     Some(text.split_at(at).1)

@@ -1,6 +1,7 @@
 //! The place of a service: the process that was started last, or that one is about to be started, and what is wanted.
 //! While the service's `finish` runs, the place has this process.
-ghost use Rattle.std.specs.Prelude.{◌≡◌, ◌<◌, ◌^◌, ◌++◌, ◌∷◌, ℕ, Bool, List, IsSomeAnd, codes, decimal, length, position, ◌==◌};
+ghost use Rattle.std.specs.Prelude.{◌≡◌, ◌<◌, ◌^◌, ◌++◌, ◌∷◌, ℕ, Bool, List, IsSomeAnd, codes, decimal, length};
+ghost use Rattle.std.specs.Prelude.{position, ◌==◌};
 ghost use Rattle.std.specs.Prelude.{Some, IfSome};
 ghost use Rattle.svc_record.specs.Place.{AreTwo, IsPlace, first_line, last_number, place_line};
 ghost use Rattle.tai_status.specs.declared.record.Want.{Want};
@@ -157,7 +158,8 @@ pub fn read_place(text: &[u8]) -> Option<Place>
 
 impl Place {
     ghost use Rattle.std.specs.Prelude.{◌≡◌, ◌<◌, ◌↔◌, IsTrue, IfSome};
-    ghost use Rattle.svc_record.specs.Place.{AreOfOneRun, finish_in, finishing, intending, is_intent, is_unknown, occupant_in};
+    ghost use Rattle.svc_record.specs.Place.{AreOfOneRun, finish_in, finishing, intending, is_intent};
+    ghost use Rattle.svc_record.specs.Place.{is_unknown, occupant_in};
     ghost use Rattle.svc_record.specs.Place.{occupied, process_in, vacated, wanting};
 
     /// Returns the place before a start that an svscan with this session intended at this tick.

@@ -1,5 +1,6 @@
 -- What the text of a file with a number of seconds means.
-use Rattle.std.specs.Prelude.{◌≡◌, ◌⊎◌, ◌<◌, ◌≤◌, ◌+◌, ◌*◌, ◌^◌, ◌==◌, ◌&&◌, ℕ, Bool, not, List, ◌++◌, codes, decimal, nat_le}
+use Rattle.std.specs.Prelude.{◌≡◌, ◌⊎◌, ◌<◌, ◌≤◌, ◌+◌, ◌*◌, ◌^◌, ◌==◌, ◌&&◌, ℕ, Bool, not, List, ◌++◌, codes}
+use Rattle.std.specs.Prelude.{decimal, nat_le}
 use Rattle.svc_system.specs.declared.settings.TheConstants.{FINISH_SECONDS, LONGEST}
 use Rattle.svc_world.specs.declared.backoff.TheConstants.{TICKS}
 

@@ -21,8 +21,8 @@ use tai_status::TimeSource;
 /// The seconds between two looks at the adopted processes.
 const LOOK_SECONDS: u64 = 1;
 
-/// Every look whose number is a multiple of this checks whether a process has ended and waits for its parent. The others
-/// check whether another process has its number.
+/// Every look whose number is a multiple of this checks whether a process has ended and waits for its parent. The
+/// others check whether another process has its number.
 const ENDS_EVERY: u64 = 2;
 
 /// The most events that one poll gives.
@@ -88,8 +88,8 @@ fn folder_number(files: &HostRuntime, pid: u32) -> u64 {
 }
 
 impl Adopted {
-    /// Returns whether the process still lives. A look makes one call of the system if that shows no change, and otherwise
-    /// reads the process's line in /proc. If the kernel can't be asked, the process counts as alive.
+    /// Returns whether the process still lives. A look makes one call of the system if that shows no change, and
+    /// otherwise reads the process's line in /proc. If the kernel can't be asked, the process counts as alive.
     fn lives(&self, looks_for_end: bool) -> bool {
         let AdoptedProcess { files, pid, tick } = &self.process;
         let glance = if looks_for_end {

@@ -459,8 +459,8 @@ where
         }
     }
 
-    /// Makes a child, with a descriptor to say that it is ready if there is one. If `./run` can't be executed, the child
-    /// is a shell that says why.
+    /// Makes a child, with a descriptor to say that it is ready if there is one. If `./run` can't be executed, the
+    /// child is a shell that says why.
     fn make(&self, descriptor: Option<u64>) -> io::Result<Child<SystemProcess>>
         requires { IfSome descriptor (λ number. number ≤ GREATEST) }
     {

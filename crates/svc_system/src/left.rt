@@ -178,7 +178,8 @@ impl ServiceFolder {
         }
     }
 
-    /// Returns what is left over from a start that an earlier svscan intended. A `finish` is awaited, and never adopted.
+    /// Returns what is left over from a start that an earlier svscan intended. A `finish` is awaited, and never
+    /// adopted.
     pub(crate) fn leftover(
         &self,
         alloc: Global,

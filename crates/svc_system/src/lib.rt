@@ -2,9 +2,10 @@
 //! svscan left.
 //!
 //! `SystemChildren` does what the rules of `svc_world` ask, with the folder of the service (`ServiceFolder`), its
-//! children (`ChildReaper`), the shell that sends signals (`SignalShell`), and the thread that watches adopted processes
-//! (`AdoptionWatch`). This layer decides nothing: what a text means, which process lives, and how a fault is named are
-//! functions with equations. How the shell is asked for a signal is proved too, over the small trait `ShellProcess`.
+//! children (`ChildReaper`), the shell that sends signals (`SignalShell`), and the thread that watches adopted
+//! processes (`AdoptionWatch`). This layer decides nothing: what a text means, which process lives, and how a fault
+//! is named are functions with equations. How the shell is asked for a signal is proved too, over the small trait
+//! `ShellProcess`.
 #![tactic(auto)]
 
 mod access;

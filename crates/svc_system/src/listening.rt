@@ -94,8 +94,8 @@ impl Listening {
         self.listened.retain(|one| one.number() != number);
     }
 
-    /// Reads the FIFO with this number. If its process said that it is ready, notes this time, notifies the service, and
-    /// watches the FIFO no longer.
+    /// Reads the FIFO with this number. If its process said that it is ready, notes this time, notifies the service,
+    /// and watches the FIFO no longer.
     pub(crate) fn hear<R: Wait>(&mut self, rt: &R, number: usize, now: Label) {
         self.listened.retain_mut(|one| {
             if one.number() != number || !one.hears() {

@@ -1,5 +1,5 @@
-//! The files of a service that hold a number of seconds: what their texts mean, and what is said about a text that means
-//! nothing.
+//! The files of a service that hold a number of seconds: what their texts mean, and what is said about a text that
+//! means nothing.
 ghost use Rattle.std.specs.Prelude.{◌≡◌, ◌<◌, ◌^◌, ◌++◌, ◌∷◌, [], List, ℕ, true, Some, IfSome, is_none};
 ghost use Rattle.svc_system.specs.declared.settings.TheConstants.{FINISH_SECONDS};
 ghost use Rattle.svc_system.specs.Settings.{IsBackoff, IsFinishTime, IsSeconds, is_late};
@@ -63,8 +63,8 @@ pub(crate) fn is_late(seconds: u64, tick: u64, now: u64) -> bool
     seconds != 0 && u128::from(tick) + u128::from(seconds) * TICKS <= u128::from(now)
 }
 
-/// Returns the number of seconds in the text of `timeout-kill`. Returns None if the text is no number, or 0, which means
-/// never (<https://skarnet.org/software/s6/servicedir.html>).
+/// Returns the number of seconds in the text of `timeout-kill`. Returns None if the text is no number, or 0, which
+/// means never (<https://skarnet.org/software/s6/servicedir.html>).
 pub(crate) fn kill_seconds(text: &[u8]) -> Option<u64>
     ensures some { IfSome result (λ seconds. (0 < seconds) × IsSeconds seconds text.now) }
     ensures only { (seconds : ℕ) → 0 < seconds → seconds < 2 ^ 64 → IsSeconds seconds text.now

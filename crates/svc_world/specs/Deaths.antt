@@ -70,7 +70,8 @@ pub record Holds (tick seconds : ℕ) (exit : Exit) (old new : Watch) : Type 0 w
   pub notes : Writes paper.Exit (exit_text exit) (with_exit exit old) noted
   pub keeps : KeepsUntil tick seconds exit noted new
 
--- A death that nobody asked for: after the fifth within a minute, the next start waits. Otherwise the death is reported.
+-- A death that nobody asked for: after the fifth within a minute, the next start waits. Otherwise the death is
+-- reported.
 abbrev pub HoldsOrReports : (is_fifth : Bool) (tick seconds : ℕ) → Exit → (death : Option Tai64n) (old new : Watch)
     → Type 0
 HoldsOrReports true tick seconds exit death old new = (death ≡ None) × Holds tick seconds exit old new

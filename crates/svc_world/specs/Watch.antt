@@ -376,7 +376,8 @@ found pid None = Alive pid
 found pid (Some death) = Dead (exit_of pid death)
 
 -- A signal to the last child, whose death is not known: its death is sought, and the signal is sent only if there is
--- none. A death that is found is kept, to be reported. It is noted that the child is asked to end, if the signal does that.
+-- none. A death that is found is kept, to be reported. It is noted that the child is asked to end, if the signal does
+-- that.
 pub record SignalsChild (sig : Sig) (pid : ℕ) (old new : Watch) : Type 0 where
   pub death : Option Death
   pub calls : ExtendedWhileKept old.calls new.calls (SoughtDeath death ∷ sent sig pid death)

@@ -35,8 +35,8 @@ pub(crate) fn seconds_after(seconds: u64, label: Label) -> Label
     Label::new(label.sec.saturating_add(seconds), label.nano).unwrap_or(Label::MAX)
 }
 
-/// The ticks of the kernel's clock at which processes of a service ended and nobody asked for it: the last four of them,
-/// in order.
+/// The ticks of the kernel's clock at which processes of a service ended and nobody asked for it: the last four of
+/// them, in order.
 #[derive(Drop)]
 pub(crate) struct Ends {
     ticks: ArrayVec<u64, 4>,

@@ -40,8 +40,8 @@ pub trait ChildSystem {
     fn kill_time(&mut self) -> Option<u64>
         ensures calls { MadeWhileKept calls (SoughtKillTime result) self.old self.new };
 
-    /// Returns when the last child, or the adopted process, said that it is ready. Returns None if it has not, and for a
-    /// `finish`.
+    /// Returns when the last child, or the adopted process, said that it is ready. Returns None if it has not, and
+    /// for a `finish`.
     fn ready(&mut self) -> Option<Label>
         ensures calls { MadeWhileKept calls (SoughtReady result) self.old self.new };
 

@@ -63,7 +63,8 @@ impl<C: ChildSystem + Drop> ChildWorld<C> {
         self.write_backoff();
     }
 
-    // Notes how a child ended, and keeps its death for this many seconds from this tick on, so that the next start waits.
+    // Notes how a child ended, and keeps its death for this many seconds from this tick on, so that the next start
+    // waits.
     #[inline(never)]
     fn hold(&mut self, tick: u64, seconds: u64, exit: Exit)
         ensures { Holds tick seconds exit self.old self.new }

@@ -244,9 +244,9 @@ impl<C: ChildSystem + Drop> World for ChildWorld<C> {
         self.answer.take()
     }
 
-    /// Returns when the last child died, once it has died and its `finish`, if there is one, is over. This is reported
-    /// once, and how it ended is recorded then. While control bytes follow one another, they are taken first. If the next
-    /// start is to wait, it is reported after that.
+    /// Returns when the last child died, once it has died and its `finish`, if there is one, is over. This is
+    /// reported once, and how it ended is recorded then. While control bytes follow one another, they are taken
+    /// first. If the next start is to wait, it is reported after that.
     fn poll_death(&mut self) -> Option<Label>
         ensures { PollsDeath self.old.child result self.old self.new }
     {

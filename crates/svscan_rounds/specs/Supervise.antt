@@ -1,5 +1,6 @@
 -- What supervise does with one service (cr.yp.to/daemontools/supervise.html).
-use Rattle.std.specs.Prelude.{◌≡◌, ℕ, ◌==◌, if◌then◌else◌, Bool, List, [], ◌∷◌, ◌++◌, map, flat_map, codes, Option, None, Some}
+use Rattle.std.specs.Prelude.{◌≡◌, ℕ, ◌==◌, if◌then◌else◌, Bool, List, [], ◌∷◌, ◌++◌, map, flat_map, codes}
+use Rattle.std.specs.Prelude.{Option, None, Some}
 use Rattle.tai_status.specs.Causes.{cause_note}
 use Rattle.tai_status.specs.Counted.{Reports}
 use Rattle.tai_status.specs.Extended.{Extended}
@@ -62,8 +63,8 @@ pub record Outlasts (folder : List ℕ) (old new : Effects) : Type 0 where
   pub calls : Extended old.calls new.calls (map still_runs faults ++ Watched (Gone loss) ∷ [])
   pub reported : ReportsAll (flat_map (lines_of_kept folder) faults ++ lines_of_loss folder loss) old.faults new.faults
 
--- If the service is kept running, it is outlasted, and the status is 0. Otherwise nothing more is done, and the status is
--- 111.
+-- If the service is kept running, it is outlasted, and the status is 0. Otherwise nothing more is done, and the
+-- status is 111.
 abbrev pub OutlastsIfKept : Supervision → (folder : List ℕ) (status : ℕ) (old new : Effects) → Type 0
 OutlastsIfKept (Kept fault) folder status old new = (status ≡ 0) × Outlasts folder old new
 OutlastsIfKept (Unmade fault) folder status old new = (status ≡ 111) × (new ≡ old)

@@ -5,15 +5,15 @@ ghost use Rattle.svscan_rounds.specs.Descriptors.{descriptors_for, descriptors_o
 use crate::service_set::Shortage;
 use scan_table::DirRow;
 
-/// The descriptors that svscan has for itself: the 17 that stay open, and those that its threads open for a moment, when
-/// a child starts or a record is written.
+/// The descriptors that svscan has for itself: the 17 that stay open, and those that its threads open for a moment,
+/// when a child starts or a record is written.
 const OWN: u64 = 24;
 
 /// The descriptors of a service: its folder, its lock and two sockets.
 const SERVICE: u64 = 4;
 
-/// The descriptors of a service with a logger: twice as many, and two ends each for the output of the service and the input
-/// of the logger.
+/// The descriptors of a service with a logger: twice as many, and two ends each for the output of the service and the
+/// input of the logger.
 const PAIR: u64 = 12;
 
 /// Returns how many descriptors the service of a row needs.

@@ -6,7 +6,8 @@ ghost use Rattle.svscan_rounds.specs.Rounds.{effects, kind_name, name_report, no
 ghost use Rattle.svscan_rounds.specs.Rounds.{is_listed_after, lines_of_listed, lines_of_unlisted, unable_to_list};
 ghost use Rattle.svscan_rounds.specs.Rounds.{lines_of_listing, lines_of_out, lines_of_shortage, lines_of_unnamed};
 ghost use Rattle.svscan_rounds.specs.Rounds.{lines_of_begun, remaining_report, still_runs, unfinished, unlogged_report};
-ghost use Rattle.svscan_rounds.specs.Rounds.{locked_report, not_made, not_text, too_few, unable_to_supervise, unmade_report};
+ghost use Rattle.svscan_rounds.specs.Rounds.{locked_report, not_made, not_text, too_few, unable_to_supervise};
+ghost use Rattle.svscan_rounds.specs.Rounds.{unmade_report};
 ghost use Rattle.svscan_rounds.specs.Rounds.{unread_report};
 ghost use Rattle.svscan_rounds.specs.Rounds.{BeginsAndRuns, EndsAll, Leaves, Rests, Runs, SvscanEnds, TakesRound};
 ghost use Rattle.svscan_rounds.specs.Rounds.{ReportsAll};
