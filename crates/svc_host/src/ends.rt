@@ -48,8 +48,12 @@ pub(crate) struct MailboxEnds {
 /// Opens the mailbox of a service.
 pub(crate) fn open_mailbox(alloc: Global, capacity: usize) -> Option<MailboxEnds>
     requires { 0 < capacity }
+
+    // Nothing was posted yet, and nothing taken.
     ensures unposted { IfSome result (λ ends. posted ends.inside ≡ []) }
     ensures untaken { IfSome result (λ ends. taken_by ends.receiver ≡ []) }
+
+    // All three senders and the receiver belong to one mailbox, which has this room.
     ensures inside { IfSome result (λ ends. home ends.inside ≡ receiver_home ends.receiver) }
     ensures outside { IfSome result (λ ends. home ends.outside ≡ receiver_home ends.receiver) }
     ensures timer { IfSome result (λ ends. home ends.timer ≡ receiver_home ends.receiver) }
@@ -142,9 +146,13 @@ pub(crate) fn open_station<R: Wait>(
     room: usize,
 ) -> Option<(Writer, StatusReader)>
     requires { (0 < room) × (room ≤ 65536) }
+
+    // The writer begins with this machine, and nothing is published.
     ensures opening { IfSome result (λ ends. opening_of ends.0 ≡ machine) }
     ensures room { IfSome result (λ ends. (station ends.0).room ≡ room) }
     ensures unpublished { IfSome result (λ ends. published ends.0 ≡ []) }
+
+    // The reader is one of the same station, and knows nothing yet.
     ensures reader { IfSome result (λ ends. reader_station ends.1.reader ≡ station ends.0) }
     ensures known { IfSome result (λ ends. known_to ends.1.reader ≡ []) }
 {

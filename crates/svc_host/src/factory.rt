@@ -157,9 +157,13 @@ impl<M: Maker + Drop, R: Runtime> PartFactory<M, R> {
         id: PartId,
     ) -> Result<Part<R>, PartFault>
         requires { AreRising rows.now }
+
+        // The part that is made.
         ensures id { IfOk result (λ part. part.id ≡ id) }
         ensures begun { IfOk result (λ part. Begins table.now.slots rows.now label part) }
         ensures rooms { IfOk result (HasRooms self.old.rooms.mail self.old.rooms.trace) }
+
+        // What the maker was asked.
         ensures hands { HandsOutOne id (result_err result) (M.calls self.old.maker) (M.calls self.new.maker) }
         ensures named { AsksByName table.now.slots (M.calls self.old.maker) (M.calls self.new.maker) }
     {

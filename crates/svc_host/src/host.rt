@@ -108,10 +108,14 @@ fn scan<T: Drop>(
     parts: &mut Vec<T>,
 ) -> Result<Scanned, AllocError>
     requires { scan_refusal table.now rows.now ≡ None }
+
+    // What was scanned.
     ensures rising { OnOk result (AreRising rows.now) }
     ensures scan { IfOk result (λ found. IsScan table.now rows.now found.scan) }
     ensures table { IfOk result (λ found. found.table ≡ scanned table.now rows.now) }
     ensures ids { IfOk result (λ found. found.ids.items ≡ found.scan.starts ++ found.scan.restarts) }
+
+    // There is room for each part that begins, and for each that fails. The parts that are there stay.
     ensures failed { IfOk result (λ found. found.failed.items ≡ []) }
     ensures failed_room { IfOk result (λ found. vec_len found.ids ≤ vec_capacity found.failed) }
     ensures parts { parts.new.items ≡ parts.old.items }
@@ -171,8 +175,12 @@ fn begin_one<M: Maker + Drop, R: Runtime>(
     requires rising { AreRising rows.now }
     requires parts_room { vec_len begun.old.parts < vec_capacity begun.old.parts }
     requires failed_room { vec_len begun.old.failed < vec_capacity begun.old.failed }
+
+    // The part is added, or why it can't be made.
     ensures begun { BeginsOne table.now.slots rows.now label id begun.old begun.new
         (M.calls factory.old.maker) (M.calls factory.new.maker) }
+
+    // It takes at most one place in each list, and no other room.
     ensures parts_len { vec_len begun.new.parts ≤ vec_len begun.old.parts + 1 }
     ensures failed_len { vec_len begun.new.failed ≤ vec_len begun.old.failed + 1 }
     ensures parts_room { vec_capacity begun.new.parts ≡ vec_capacity begun.old.parts }
@@ -221,10 +229,14 @@ fn join_part<M: Maker + Drop, R: Runtime>(
     part: &mut Part<R>,
 ) -> bool
     ensures same { PartGoesOn part.old part.new }
+
+    // If it is joined.
     ensures joined { result ≡ true → IsJoined part.new }
     ensures gone { IsGoneIfEnded part.new }
     ensures gives_back { result ≡ true
         → GivesBack part.old part.new (M.calls factory.old.maker) (M.calls factory.new.maker) }
+
+    // If its service has not begun.
     ensures unbegun { result ≡ false → part.new ≡ part.old }
     ensures kept { result ≡ false → factory.new ≡ factory.old }
 {
@@ -404,9 +416,12 @@ impl<M: Maker + Drop, R: Runtime> Host<M, R> {
     /// Posts a control byte to a part. Returns `NoSuchPart` exactly if the host does not have the part, and `Full` if
     /// its mailbox is full.
     pub fn post(&mut self, id: PartId, byte: u8) -> Result<(), PostFault>
+        // The byte is in the mailbox of that part, or the result says why not.
         ensures there { (result ≡ Err PostFault.NoSuchPart) ↔ IsNowhere id self.old.parts }
         ensures posted { IfOk result (λ _. IsPost self.old.parts id byte self.new.parts) }
         ensures full { (result ≡ Err PostFault.Full) → IsFullAt id self.old.parts }
+
+        // Nothing else changes.
         ensures table { self.new.table ≡ self.old.table }
         ensures unchanged { OnErr result (self.new ≡ self.old) }
         ensures runs { Runs self.old self.new }
@@ -470,13 +485,19 @@ impl<M: Maker + Drop, R: Runtime> Host<M, R> {
     fn reap(&mut self, place: usize) -> bool
         requires { place < length self.old.parts }
         ensures parts { IsStep self.old.parts place self.new.parts }
+
+        // If it was joined, it had not ended before, and the table has its end.
         ensures ended { result ≡ true → (d : HostPart)
             → self.new.table ≡ after_end self.old.table (slice_index_or self.old.parts place d).id }
-        ensures table { result ≡ false → self.new.table ≡ self.old.table }
         ensures ran { result ≡ true → (d : HostPart) → (slice_index_or self.old.parts place d).has_ended ≡ false }
         ensures joined { result ≡ true → (d : HostPart) → IsJoined (slice_index_or self.new.parts place d) }
-        ensures same { result ≡ false → self.new.parts ≡ self.old.parts }
         ensures gone { result ≡ true → (d : HostPart) → IsGoneIfEnded (slice_index_or self.new.parts place d) }
+
+        // If it was not joined, nothing changes.
+        ensures table { result ≡ false → self.new.table ≡ self.old.table }
+        ensures same { result ≡ false → self.new.parts ≡ self.old.parts }
+
+        // What the maker was asked.
         ensures returned { (d : HostPart) → HandsOut self.old.calls self.new.calls []
             (returned_by result (slice_index_or self.old.parts place d).id) }
     {

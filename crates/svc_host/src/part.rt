@@ -13,8 +13,8 @@ use std::sync::Wait;
 use std::thread::Threads;
 use sup_core::Machine;
 use svc_house::{ControlSender, Runtime};
-use svc_record::Opening;
 use svc_mail::letter::Full;
+use svc_record::Opening;
 
 /// What was lost as a part ended.
 #[derive(Clone, Copy, Debug, PartialEq, Eq)]

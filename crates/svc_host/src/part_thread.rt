@@ -63,9 +63,13 @@ impl Last {
     ) -> Last
         requires station { reader_station reader.old ≡ station writer.old }
         requires served { IsServed writer.old receiver }
+
+        // The reader learns, and is still the same one.
         ensures same { IsSameReader reader.old reader.new }
         ensures own { IsPrefix (known_to reader.old) (known_to reader.new) }
         ensures now { result.reader.value ≡ reader.new }
+
+        // The writer stays as it is, and all bytes were taken.
         ensures kept { writer.new ≡ writer.old }
         ensures untaken { result.untaken ≡ 0 }
     {
@@ -125,12 +129,18 @@ fn read_last(
 ) -> (Machine, Option<TraceText>)
     requires station { reader_station reader.old ≡ station writer.old }
     requires gone { phase_of (history_of writer.old) ≡ Phase.Gone }
+
+    // The machine is that of the whole history, and it is gone.
     ensures machine { result.0 ≡ state_of (history_at reader.new) }
     ensures gone { phase_of (history_at reader.new) ≡ Phase.Gone }
     ensures whole { known_to reader.new ≡ published writer.old }
+
+    // The reader learns, and is still the same one. The writer stays as it is.
     ensures same { IsSameReader reader.old reader.new }
     ensures own { IsPrefix (known_to reader.old) (known_to reader.new) }
     ensures kept { writer.new ≡ writer.old }
+
+    // If there is a trace, it is that of the reader.
     ensures trace { option_map (λ _. trace_at reader.new) result.1 ≡ result.1 }
 {
     match last_reading(alloc, reader, writer.tell()) {

@@ -27,8 +27,8 @@ use sup_core::{Event, Machine};
 use svc_house::{
     ControlSender, Gate, House, HouseFault, Inbox, MailInbox, Notifier, Turned, World,
 };
-use svc_record::Opening;
 use svc_mail::receiver::Receiver;
+use svc_record::Opening;
 use svc_station::parked::Parked;
 use svc_station::writer::Writer;
 use tai_status::{Label, TimeSource};
@@ -281,6 +281,8 @@ fn open<W: World + Drop, G: Gate + Drop>(
     requires unpublished { published writer ≡ [] }
     requires untaken { taken_by receiver ≡ [] }
     requires unanswered { answered (W.calls world) ≡ [] }
+
+    // The world was asked what this beginning asks. The house is at the same station, and had no event.
     ensures asks { ExtendedWhileKept (W.calls world) result.calls
         (requested (asks_of_begin (beginning begins.opening begins.down begins.label))) }
     ensures station { (result.station ≡ station writer) × (result.events ≡ []) }
