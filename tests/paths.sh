@@ -32,4 +32,15 @@ is 'there are rows' yes "$([ "$rows" -gt 50 ] && echo yes)"
 for path in $(sed '/^## Where to change what/,/^## Glossary/d' docs/ARCHITECTURE.md | grep -oE '`crates/[^` ]*`' | tr -d '`'); do
   is "$path" there "$([ -e "$path" ] && echo there)"
 done
+
+# constant FILE NAME: the value of a constant in a source, without the marks between digits
+constant() { sed -nE "s/^(pub(\(crate\))? )?const $2: [a-z0-9]+ = ([0-9_]+);.*/\3/p" "$1" | tr -d _; }
+
+times=0
+while IFS='|' read -r _ what value place _; do
+  [[ $place =~ \`([A-Z_]+)\`\ in\ \`(crates/[^\`]*)\` ]] || continue
+  times=$((times + 1))
+  is "${what# }" "$(tr -d ' ' <<<"$value")" "$(constant "${BASH_REMATCH[2]}" "${BASH_REMATCH[1]}")"
+done < <(sed -n '/^## The times and sizes/,/^## The way/{/^| /p}' docs/ARCHITECTURE.md)
+is 'there are times' yes "$([ "$times" -gt 15 ] && echo yes)"
 counts paths

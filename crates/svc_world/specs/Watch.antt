@@ -1,5 +1,5 @@
 -- What a service's world knows between two calls, and what each call does.
-use Rattle.std.specs.Prelude.{◌≡◌, ℕ, Bool, true, false, not, ◌||◌, List, [], ◌∷◌}
+use Rattle.std.specs.Prelude.{◌≡◌, ◌==◌, ℕ, Bool, true, false, not, ◌||◌, List, [], ◌∷◌}
 use Rattle.std.specs.Prelude.{Option, Some, None, Result}
 use Rattle.std.specs.Prelude.{Ok, Err, option_map}
 use Rattle.tai_status.specs.Label.{Tai64n}
@@ -318,16 +318,43 @@ pub record TakesUp (pid tick : ℕ) (label : Tai64n) (old new : Watch) : Type 0 
   pub adopts : Adopts pid tick old adopted
   pub records : RecordsStart (Some pid) (answered (Some pid) label adopted) new
 
--- what is sent to a `finish` with this number, if its time is over
-abbrev pub killed : (late : Bool) (pid : ℕ) → List Call
-killed false pid = []
-killed true pid = Signalled sig.KILL pid ∷ []
+-- It was sought whether a `finish` that began at this tick has run for as long as it may.
+pub record SeeksLate (tick : ℕ) (late : Bool) (old new : Watch) : Type 0 where
+  pub calls : ExtendedWhileKept old.calls new.calls (SoughtLate tick late ∷ [])
+  pub stands : new ≡ record old { calls = new.calls }
 
--- It was sought whether the time of this `finish` is over. Only if it is, the process gets KILL.
+-- This process got KILL.
+pub record Kills (pid : ℕ) (old new : Watch) : Type 0 where
+  pub calls : ExtendedWhileKept old.calls new.calls (Signalled sig.KILL pid ∷ [])
+  pub stands : new ≡ record old { calls = new.calls }
+
+abbrev pub KillsIf : Bool → (pid : ℕ) (old new : Watch) → Type 0
+KillsIf true pid old new = Kills pid old new
+KillsIf false pid old new = new ≡ old
+
+-- whether a tick was found, and is this one
+abbrev pub is_tick : (tick : ℕ) → (found : Option ℕ) → Bool
+is_tick tick None = false
+is_tick tick (Some found) = found == tick
+
+-- The process with the number of this one gets KILL only if it was just found to be this one, by the tick at which it
+-- began.
+pub record KillsIfSame (process : ProcessId) (old new : Watch) : Type 0 where
+  pub tick : Option ℕ
+  pub sought : Watch
+  pub seeks : SeeksTick process.pid tick old sought
+  pub kills : KillsIf (is_tick process.tick tick) process.pid sought new
+
+abbrev pub KillsOnce : (late : Bool) (process : ProcessId) (old new : Watch) → Type 0
+KillsOnce true process old new = KillsIfSame process old new
+KillsOnce false process old new = new ≡ old
+
+-- It was sought whether the time of this `finish` is over. Only if it is, the process gets KILL, if it is still there.
 pub record KillsIfLate (process : ProcessId) (old new : Watch) : Type 0 where
   pub late : Bool
-  pub calls : ExtendedWhileKept old.calls new.calls (SoughtLate process.tick late ∷ killed late process.pid)
-  pub stands : new ≡ record old { calls = new.calls }
+  pub asked : Watch
+  pub asks : SeeksLate process.tick late old asked
+  pub kills : KillsOnce late process asked new
 
 -- The `finish` in the place gets KILL if its time is over.
 abbrev pub Bounds : (finish : Option ProcessId) (old new : Watch) → Type 0

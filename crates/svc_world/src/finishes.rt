@@ -1,4 +1,7 @@
 //! How a service's `finish` runs after its child died.
+ghost use Rattle.std.specs.Prelude.{◌≡◌};
+ghost use Rattle.svc_world.specs.Watch.{is_tick};
+
 use crate::begin::LastChild;
 use crate::child_system::ChildSystem;
 use crate::paper::Paper;
@@ -7,23 +10,68 @@ use sup_core::Sig;
 use svc_record::{Exit, ProcessId, exit_text};
 use tai_status::Label;
 
+/// Returns whether a tick was found, and is this one.
+fn is_tick(tick: u64, found: Option<u64>) -> bool
+    ensures { result ≡ is_tick tick found }
+{
+    match found {
+        Some(found) => found == tick,
+        None => false,
+    }
+}
+
 impl<C: ChildSystem + Drop> ChildWorld<C> {
     ghost use Rattle.std.specs.Prelude.{◌<◌, ◌≡◌, IfSome};
     ghost use Rattle.svc_record.specs.Exits.{exit_text};
     ghost use Rattle.svc_record.specs.Place.{finish_in};
     ghost use Rattle.svc_world.specs.Deaths.{BeginsFinish, EndsFinish, FinishesBy, FinishesIf, IntendsFinish};
     ghost use Rattle.svc_world.specs.Deaths.{SeeksEnd, SeeksFinish, SpawnsFinishIf, with_exit, with_finish};
-    ghost use Rattle.svc_world.specs.Watch.{Bounds, KillsIfLate, Writes};
+    ghost use Rattle.svc_world.specs.Watch.{Bounds, KillsIf, KillsIfLate, KillsIfSame, KillsOnce, SeeksLate, Writes};
     ghost use Rattle.svc_world.specs.declared.paper.Paper.TheVariants as paper;
+
+    // Returns whether a `finish` that began at this tick has run for as long as it may.
+    fn seek_late(&mut self, tick: u64) -> bool
+        ensures { SeeksLate tick result self.old self.new }
+    {
+        self.system.is_late(tick)
+    }
+
+    // Sends KILL to the process with this number, if that is the process that is meant.
+    fn kill_if(&mut self, is_same: bool, pid: u32)
+        requires { 0 < pid }
+        ensures { KillsIf is_same pid self.old self.new }
+    {
+        if is_same {
+            self.system.signal(Sig::KILL, pid);
+        }
+    }
+
+    // Sends KILL to a process. Sends nothing if another process has its number by now, or if the kernel can't be asked.
+    fn kill_if_same(&mut self, process: &ProcessId)
+        requires { 0 < process.now.pid }
+        ensures { KillsIfSame process.now self.old self.new }
+    {
+        let tick = self.seek_tick(process.pid);
+        self.kill_if(is_tick(process.tick, tick), process.pid);
+    }
+
+    // Sends KILL to a `finish`, once, or not if its time is not over.
+    fn kill_once(&mut self, late: bool, process: &ProcessId)
+        requires { 0 < process.now.pid }
+        ensures { KillsOnce late process.now self.old self.new }
+    {
+        if late {
+            self.kill_if_same(process);
+        }
+    }
 
     // Sends KILL to a `finish` if its time is over.
     fn kill_if_late(&mut self, process: &ProcessId)
         requires { 0 < process.now.pid }
         ensures { KillsIfLate process.now self.old self.new }
     {
-        if self.system.is_late(process.tick) {
-            self.system.signal(Sig::KILL, process.pid);
-        }
+        let late = self.seek_late(process.tick);
+        self.kill_once(late, process);
     }
 
     /// Sends KILL to the `finish` in the place, if there is one and its time is over.

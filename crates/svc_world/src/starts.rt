@@ -87,8 +87,8 @@ impl<C: ChildSystem + Drop> ChildWorld<C> {
         if intended { self.system.spawn() } else { None }
     }
 
-    // Returns the tick at which a process began, if it can be found.
-    fn seek_tick(&mut self, pid: u32) -> Option<u64>
+    /// Returns the tick at which a process began, if it can be found.
+    pub(crate) fn seek_tick(&mut self, pid: u32) -> Option<u64>
         ensures { SeeksTick pid result self.old self.new }
     {
         self.system.tick(pid)
