@@ -1,4 +1,4 @@
-//! What is in `supervise/` beside the status record: the small files about the processes of a service, and how the
+//! What is in `supervise/` next to the status record: the small files about the processes of a service, and how the
 //! service begins after an earlier svscan.
 //!
 //! - `place`: the process that was started last, or that a start is intended. `process`: the process that was started
