@@ -1,4 +1,4 @@
-use Rattle.svc_world.proofs.deaths.ChildWorld.know_death.Goals as goal
+use Rattle.svc_world.proofs.world.ChildWorld.know_death.Goals as goal
 
 pub returns : goal.returns
 returns g c = record {
