@@ -22,7 +22,7 @@ use std::time::Clock;
 use std::{io, process};
 use svc_door::Door;
 use svc_house::{ControlSender, Notifier};
-use svc_record::{Found, Left, Leftover, Place};
+use svc_record::{Fate, Left, Leftover, Place};
 use svc_system::{
     AdoptionWatch, ChildReaper, Flow, FolderFault, LoggerInput, Neighbours, OutputEnds, OwnRun,
     Patience, ServiceFolder, SignalShell, Streams, Surroundings, SystemChildren, drain, is_read,
@@ -285,12 +285,12 @@ where
         let (mut children, reaper) = self.children(folder, name, streams, notifier)?;
         let own = &self.shared.own;
         let (place, is_open, adopted) = match &left.process {
-            Found::Lives(process) => {
+            Fate::Lives(process) => {
                 children.try_adopt(process.pid, process.tick)?;
                 let place = own.vacant().occupied(process.pid, process.tick);
                 (place, false, Some(process.pid))
             }
-            Found::Gone | Found::Unknown => match folder.folder.intended(own) {
+            Fate::Gone | Fate::Unknown => match folder.folder.intended(own) {
                 Some(place) => (place, true, None),
                 None => (own.vacant(), false, None),
             },

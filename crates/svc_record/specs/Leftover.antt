@@ -8,8 +8,8 @@ use Rattle.svc_record.specs.declared.leftover.Seen.{Seen}
 use Rattle.svc_record.specs.declared.leftover.Intent.{Intent}
 use Rattle.svc_record.specs.declared.leftover.Leftover.{Leftover}
 use Rattle.svc_record.specs.declared.leftover.Leftover.TheVariants.{Nobody, Process, Unsure}
-use Rattle.svc_record.specs.declared.process.Found.{Found}
-use Rattle.svc_record.specs.declared.process.Found.TheVariants.{Lives}
+use Rattle.svc_record.specs.declared.process.Fate.{Fate}
+use Rattle.svc_record.specs.declared.process.Fate.TheVariants.{Lives}
 
 -- the process with this number among these
 abbrev pub process_at : (pid : ℕ) → List Seen → Option Seen
@@ -149,6 +149,6 @@ awaited (Process pid tick) = Unsure pid
 awaited other = other
 
 -- what is left over of a `finish` whose process became this: it is awaited while it lives
-abbrev pub left_of_finish : Found → Leftover
+abbrev pub left_of_finish : Fate → Leftover
 left_of_finish (Lives process) = Unsure process.pid
 left_of_finish other = Nobody

@@ -12,8 +12,8 @@ use Rattle.tai_status.specs.declared.phase.Phase.{Phase}
 use Rattle.tai_status.specs.declared.phase.Phase.TheVariants as phase
 use Rattle.sup_core.specs.State.{State, is_gone, is_up}
 use Rattle.sup_core.specs.History.{History, Begin, Opened}
-use Rattle.svc_record.specs.declared.process.Found.{Found}
-use Rattle.svc_record.specs.declared.process.Found.TheVariants.{Unknown, Gone, Lives}
+use Rattle.svc_record.specs.declared.process.Fate.{Fate}
+use Rattle.svc_record.specs.declared.process.Fate.TheVariants.{Unknown, Gone, Lives}
 use Rattle.svc_record.specs.declared.opening.Left.{Left}
 use Rattle.svc_record.specs.declared.opening.Opening.{Opening}
 use Rattle.svc_record.specs.declared.opening.Opening.TheVariants.{ByRow, Wanted, AsLeft}
@@ -88,7 +88,7 @@ without_process full =
 
 -- How a service begins. A record counts only if a process was recorded in this boot. If that process is alive, it is
 -- adopted.
-abbrev pub opening_of : Option Loaded → Found → (found : Tai64n) → Opening
+abbrev pub opening_of : Option Loaded → Fate → (found : Tai64n) → Opening
 opening_of record_left (Lives process) found = AsLeft (adopted record_left process.pid found)
 opening_of (Some (New full)) Gone found = without_process full
 opening_of record_left other found = ByRow
@@ -111,7 +111,7 @@ was_exiting (Some loaded) = exiting_in loaded
 
 -- How a service with a stale record begins, if this is wanted. A process that is alive is up since it was found.
 -- Without a process the service begins up or down.
-abbrev pub by_want_of : Option Loaded → Found → (found : Tai64n) → Want → Opening
+abbrev pub by_want_of : Option Loaded → Fate → (found : Tai64n) → Want → Opening
 by_want_of record_left (Lives process) found wanted =
     AsLeft (up_since found process.pid false wanted (was_exiting record_left))
 by_want_of record_left Gone found wanted = Wanted (not (is_want wanted want.Up))

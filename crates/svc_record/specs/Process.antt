@@ -3,8 +3,8 @@ use Rattle.std.specs.Prelude.{◌≡◌, ◌≢◌, ◌<◌, ◌^◌, ℕ, ⊤, 
 use Rattle.std.specs.Prelude.{None}
 use Rattle.std.specs.Borrow.{Bor}
 use Rattle.svc_record.specs.declared.process.ProcessId.{ProcessId}
-use Rattle.svc_record.specs.declared.process.Found.{Found}
-use Rattle.svc_record.specs.declared.process.Found.TheVariants.{Unknown, Gone, Lives}
+use Rattle.svc_record.specs.declared.process.Fate.{Fate}
+use Rattle.svc_record.specs.declared.process.Fate.TheVariants.{Unknown, Gone, Lives}
 
 -- the line that records a process: its number, the tick at which it began, and the boot, separated by spaces
 abbrev pub process_line : ProcessId → List ℕ
@@ -19,13 +19,13 @@ pub record IsProcess (process : ProcessId) : Type 0 where
   pub boot : length process.boot ≡ 36
 
 -- If a process was found alive, it has a number.
-abbrev pub IsLiving : Found → Type 0
+abbrev pub IsLiving : Fate → Type 0
 IsLiving (Lives process) = 0 < process.pid
 IsLiving other = ⊤
 
 -- What became of the recorded process. It is alive exactly if it began in this boot, and the process that now has its
 -- number began at its tick. A process of another boot shows nothing, and nor does no process.
-abbrev pub IsFound : (recorded : Option ProcessId) (boot : List ℕ) (tick : Option ℕ) → Found → Type 0
+abbrev pub IsFound : (recorded : Option ProcessId) (boot : List ℕ) (tick : Option ℕ) → Fate → Type 0
 IsFound None boot tick found = found ≡ Unknown
 IsFound (Some process) boot tick (Lives found) = (process.boot ≡ boot) × (tick ≡ Some process.tick) × (found ≡ process)
 IsFound (Some process) boot tick Gone = (process.boot ≡ boot) × (tick ≢ Some process.tick)

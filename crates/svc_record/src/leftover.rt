@@ -9,7 +9,7 @@ ghost use Rattle.svc_record.specs.Leftover.{parent_in, process_at};
 ghost use Rattle.svc_record.specs.Leftover.{topmost, without_root};
 ghost use Rattle.svc_record.specs.declared.leftover.TheConstants.{GENERATIONS};
 
-use crate::process::Found;
+use crate::process::Fate;
 
 /// How many generations of ancestors are examined.
 const GENERATIONS: usize = 256;
@@ -68,15 +68,15 @@ impl Leftover {
     ghost use Rattle.svc_record.specs.Process.{IsLiving};
 
     /// Returns what is left over of a `finish` whose process became this.
-    pub fn of_finish(found: Found) -> Leftover
+    pub fn of_finish(found: Fate) -> Leftover
         requires { IsLiving found }
         ensures left { result ≡ left_of_finish found }
         ensures awaited { IsAwaited result }
         ensures number { HasNumber result }
     {
         match found {
-            Found::Lives(process) => Leftover::Unsure(process.pid),
-            Found::Gone | Found::Unknown => Leftover::Nobody,
+            Fate::Lives(process) => Leftover::Unsure(process.pid),
+            Fate::Gone | Fate::Unknown => Leftover::Nobody,
         }
     }
 

@@ -29,5 +29,5 @@ pub use leftover::{Intent, Leftover, Seen, find_any_here, find_leftover};
 pub use moment::{Moment, before_newline, moment_in, moment_text};
 pub use opening::{Left, Opening};
 pub use place::{PLACE_BYTES, Place, PlaceLine, first_line, place_line, read_place};
-pub use process::{BootId, Found, ProcessId, ProcessLine, find, process_line, read_process};
+pub use process::{BootId, Fate, ProcessId, ProcessLine, find, process_line, read_process};
 pub use reading::{read_ending, read_exit};

@@ -9,7 +9,7 @@ ghost use Rattle.svc_record.specs.Opening.{opening_of};
 ghost use Rattle.svc_record.specs.Opening.{running, up_since, was_exiting, without_process};
 ghost use Rattle.svc_record.specs.declared.opening.Opening.{Opening};
 
-use crate::process::Found;
+use crate::process::Fate;
 use sup_core::{Ask, Asks, Machine};
 use tai_status::{Full, Label, Loaded, Phase, View, Want, encode_full};
 
@@ -177,7 +177,7 @@ fn by_want(left: &Left, want: Want) -> Opening
     ensures alive { BeginsAlive result }
 {
     match &left.process {
-        Found::Lives(process) => {
+        Fate::Lives(process) => {
             let view = View {
                 label: left.label,
                 pid: process.pid,
@@ -186,10 +186,10 @@ fn by_want(left: &Left, want: Want) -> Opening
             };
             Opening::AsLeft(up(view, was_exiting(&left.record)))
         }
-        Found::Gone => Opening::Wanted {
+        Fate::Gone => Opening::Wanted {
             down: !is_want(want, Want::Up),
         },
-        Found::Unknown => Opening::ByRow,
+        Fate::Unknown => Opening::ByRow,
     }
 }
 
@@ -200,10 +200,10 @@ fn by_record(left: &Left) -> Opening
     ensures alive { BeginsAlive result }
 {
     match (&left.process, &left.record) {
-        (Found::Lives(process), record) => {
+        (Fate::Lives(process), record) => {
             Opening::AsLeft(adopted(record, process.pid, left.label))
         }
-        (Found::Gone, Some(Loaded::New(full))) => without_process(full),
+        (Fate::Gone, Some(Loaded::New(full))) => without_process(full),
         _ => Opening::ByRow,
     }
 }
@@ -216,7 +216,7 @@ pub struct Left {
     /// What its place wants, if that could be read and is from this boot.
     pub want: Option<Want>,
     /// What became of its process.
-    pub process: Found,
+    pub process: Fate,
     /// When this was found.
     pub label: Label,
 }

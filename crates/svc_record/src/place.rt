@@ -7,7 +7,7 @@ ghost use Rattle.svc_record.specs.Place.{AreTwo, IsPlace, first_line, last_numbe
 ghost use Rattle.tai_status.specs.declared.record.Want.{Want};
 ghost use Rattle.svc_record.specs.declared.place.Place.{Place};
 
-use crate::process::{BootId, ProcessId, push_number, read_boot, split_number};
+use crate::process::{BootId, ProcessId, push_field, read_boot, split_number};
 use arrayvec::ArrayVec;
 use tai_status::Want;
 
@@ -74,11 +74,11 @@ pub fn place_line(place: &Place) -> PlaceLine
     ensures { result.items ≡ place_line place.now }
 {
     let mut line = ArrayVec::new();
-    push_number(&mut line, u64::from(place.pid));
-    push_number(&mut line, place.tick);
-    push_number(&mut line, place.session);
-    push_number(&mut line, place.init);
-    push_number(&mut line, last_number(place.is_finish, place.want));
+    push_field(&mut line, u64::from(place.pid));
+    push_field(&mut line, place.tick);
+    push_field(&mut line, place.session);
+    push_field(&mut line, place.init);
+    push_field(&mut line, last_number(place.is_finish, place.want));
     line.try_extend_from_slice(&place.boot).unwrap();
     line.push(b'\n');
     line

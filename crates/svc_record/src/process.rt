@@ -29,7 +29,7 @@ pub struct ProcessId {
 
 /// What became of the recorded process.
 #[derive(Clone, Copy, Debug, PartialEq, Eq)]
-pub enum Found {
+pub enum Fate {
     /// No process was recorded in this boot.
     Unknown,
     /// The process ran in this boot, and is gone.
@@ -39,7 +39,7 @@ pub enum Found {
 }
 
 /// Writes a number and a space at the end of a line.
-pub(crate) fn push_number<const N: usize>(line: &mut ArrayVec<u8, N>, number: u64)
+pub(crate) fn push_field<const N: usize>(line: &mut ArrayVec<u8, N>, number: u64)
     requires { array_vec_len line.old + 21 ≤ N }
     ensures text { line.new.items ≡ line.old.items ++ decimal number ++ codes " " }
     ensures len { array_vec_len line.new ≤ array_vec_len line.old + 21 }
@@ -55,8 +55,8 @@ pub fn process_line(process: &ProcessId) -> ProcessLine
     ensures { result.items ≡ process_line process.now }
 {
     let mut line = ArrayVec::new();
-    push_number(&mut line, u64::from(process.pid));
-    push_number(&mut line, process.tick);
+    push_field(&mut line, u64::from(process.pid));
+    push_field(&mut line, process.tick);
     line.try_extend_from_slice(&process.boot).unwrap();
     line.push(b'\n');
     line
@@ -113,18 +113,18 @@ pub fn read_process(text: &[u8]) -> Option<ProcessId>
 
 /// Returns what became of the recorded process. `boot` is this boot. `tick` is when the process that now has its number
 /// began, if there is one.
-pub fn find(recorded: Option<ProcessId>, boot: &BootId, tick: Option<u64>) -> Found
+pub fn find(recorded: Option<ProcessId>, boot: &BootId, tick: Option<u64>) -> Fate
     ensures { IsFound recorded boot.now tick result }
 {
     let Some(process) = recorded else {
-        return Found::Unknown;
+        return Fate::Unknown;
     };
     let its_boot = process.boot;
     if its_boot != *boot {
-        Found::Unknown
+        Fate::Unknown
     } else if tick == Some(process.tick) {
-        Found::Lives(process)
+        Fate::Lives(process)
     } else {
-        Found::Gone
+        Fate::Gone
     }
 }

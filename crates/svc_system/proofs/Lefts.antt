@@ -3,12 +3,12 @@ use Rattle.std.proofs.Common.{◌<◌, ℕ, List, Option, Some, None, ap, sym, �
 use Rattle.std.specs.Prelude.{IfSome}
 use Rattle.svc_record.specs.Process.{IsLiving}
 use Rattle.svc_record.specs.declared.process.ProcessId.{ProcessId}
-use Rattle.svc_record.specs.declared.process.Found.{Found}
-use Rattle.svc_record.specs.declared.process.Found.TheVariants.{Unknown, Gone, Lives}
+use Rattle.svc_record.specs.declared.process.Fate.{Fate}
+use Rattle.svc_record.specs.declared.process.Fate.TheVariants.{Unknown, Gone, Lives}
 use Rattle.svc_system.specs.Left.{IsFoundIn, IsOfBoot}
 
 -- a process that was found to live has a number
-pub found_living : (recorded : Option ProcessId) (boot : Option (List ℕ)) (tick : Option ℕ) (found : Found)
+pub found_living : (recorded : Option ProcessId) (boot : Option (List ℕ)) (tick : Option ℕ) (found : Fate)
     → IfSome recorded (λ process. 0 < process.pid) → IsFoundIn recorded boot tick found → IsLiving found
 found_living recorded boot tick Unknown some h = tt
 found_living recorded boot tick Gone some h = tt
@@ -18,7 +18,7 @@ found_living (Some process) (Some boot) tick (Lives found) some h =
     subst (λ (p : ProcessId). 0 < p.pid) (sym (h.2)) some
 
 -- and began in this boot
-pub found_of_boot : (recorded : Option ProcessId) (boot : Option (List ℕ)) (tick : Option ℕ) (found : Found)
+pub found_of_boot : (recorded : Option ProcessId) (boot : Option (List ℕ)) (tick : Option ℕ) (found : Fate)
     → IsFoundIn recorded boot tick found → IsOfBoot boot found
 found_of_boot recorded boot tick Unknown h = tt
 found_of_boot recorded None tick Gone h = cc h

@@ -11,16 +11,16 @@ use Rattle.svc_record.specs.Place.{process_in}
 use Rattle.svc_record.specs.declared.place.Place.{Place}
 use Rattle.svc_record.specs.declared.leftover.Leftover.{Leftover}
 use Rattle.svc_record.specs.declared.leftover.Leftover.TheVariants.{Process}
-use Rattle.svc_record.specs.declared.process.Found.{Found}
-use Rattle.svc_record.specs.declared.process.Found.TheVariants.{Unknown, Gone, Lives}
+use Rattle.svc_record.specs.declared.process.Fate.{Fate}
+use Rattle.svc_record.specs.declared.process.Fate.TheVariants.{Unknown, Gone, Lives}
 
 -- What became of the recorded process. If the boot is not known, nothing is known about a process.
-abbrev pub IsFoundIn : (recorded : Option ProcessId) (boot : Option (List ℕ)) (tick : Option ℕ) → Found → Type 0
+abbrev pub IsFoundIn : (recorded : Option ProcessId) (boot : Option (List ℕ)) (tick : Option ℕ) → Fate → Type 0
 IsFoundIn recorded None tick found = found ≡ Unknown
 IsFoundIn recorded (Some boot) tick found = IsFound recorded boot tick found
 
 -- A process that lives began in this boot. If a process is gone, this boot is known.
-abbrev pub IsOfBoot : (boot : Option (List ℕ)) → Found → Type 0
+abbrev pub IsOfBoot : (boot : Option (List ℕ)) → Fate → Type 0
 IsOfBoot boot (Lives process) = boot ≡ Some process.boot
 IsOfBoot boot Gone = IsSome boot
 IsOfBoot boot Unknown = ⊤
@@ -28,7 +28,7 @@ IsOfBoot boot Unknown = ⊤
 -- What became of the last process, once it is known what is left over from a start that was intended after it. A
 -- process that is left over is the last one. If nobody is left over, or it is not sure who is, the last process is
 -- gone.
-abbrev pub found_over : Found → Option Leftover → (boot : Option (List ℕ)) → Found
+abbrev pub found_over : Fate → Option Leftover → (boot : Option (List ℕ)) → Fate
 found_over found (Some (Process pid tick)) (Some boot) = Lives (record { pid = pid; tick = tick; boot = boot })
 found_over found (Some over) (Some boot) = Gone
 found_over found over boot = found

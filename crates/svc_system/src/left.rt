@@ -12,7 +12,7 @@ use cmd_base::read_status_front;
 use std::alloc::Global;
 use std::fs;
 use svc_record::{
-    BootId, Found, Intent, Left, Leftover, PLACE_BYTES, Place, ProcessId, find, find_any_here,
+    BootId, Fate, Intent, Left, Leftover, PLACE_BYTES, Place, ProcessId, find, find_any_here,
     find_leftover, first_line, read_place, read_process,
 };
 use tai_status::{Label, Loaded, Phase, decode_front};
@@ -37,18 +37,18 @@ fn is_starting(recorded: &Option<Loaded>) -> bool
 
 /// Returns what became of the recorded process. `boot` is this boot, if it is known. `tick` is when the process that
 /// has its number now began, if there is one.
-fn find_in(recorded: Option<ProcessId>, boot: Option<&BootId>, tick: Option<u64>) -> Found
+fn find_in(recorded: Option<ProcessId>, boot: Option<&BootId>, tick: Option<u64>) -> Fate
     ensures { IsFoundIn recorded (option_copied boot.entry) tick result }
 {
     match boot {
         Some(boot) => find(recorded, boot, tick),
-        None => Found::Unknown,
+        None => Fate::Unknown,
     }
 }
 
 /// Returns what became of the last process. If a start was intended after it, what is left over from that start
 /// decides.
-fn found_over(found: Found, over: Option<Leftover>, boot: Option<&BootId>) -> Found
+fn found_over(found: Fate, over: Option<Leftover>, boot: Option<&BootId>) -> Fate
     requires living { IsLiving found }
     requires of_boot { IsOfBoot (option_copied boot) found }
     requires over { IfSome over HasNumber }
@@ -57,12 +57,12 @@ fn found_over(found: Found, over: Option<Leftover>, boot: Option<&BootId>) -> Fo
     ensures found { result ≡ found_over found over (option_copied boot.entry) }
 {
     match (over, boot) {
-        (Some(Leftover::Process(pid, tick)), Some(boot)) => Found::Lives(ProcessId {
+        (Some(Leftover::Process(pid, tick)), Some(boot)) => Fate::Lives(ProcessId {
             pid,
             tick,
             boot: *boot,
         }),
-        (Some(_), Some(_)) => Found::Gone,
+        (Some(_), Some(_)) => Fate::Gone,
         _ => found,
     }
 }
