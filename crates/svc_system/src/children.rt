@@ -1,34 +1,33 @@
 //! The system's own children of one service.
-ghost use Rattle.std.specs.Prelude.{◌≡◌, ◌≤◌, [], ◌∷◌, codes, option_copied, IfOk, IfSome};
-ghost use Rattle.std.specs.IoError.{error_kind};
-ghost use Rattle.std.specs.Process.{command_args, command_program};
-ghost use Rattle.svc_system.specs.Commands.{paper_name, remark_text, unable_to_run};
-ghost use Rattle.svc_system.specs.Finish.{signal_word, status_word};
-ghost use Rattle.svc_system.specs.Stats.{present_tick};
+ghost use Rattle.std.specs.Prelude.{◌≤◌, IfSome};
 ghost use Rattle.svc_record.specs.Leftover.{HasNumber};
 ghost use Rattle.svc_system.specs.declared.notification.TheConstants.{GREATEST};
 
 use crate::child_reaper::{ChildReaper, ChildSlot, DeathSlot, WatchedChild};
+use crate::commands::{
+    NO_FIFO, NO_FINISH, NO_SETSID, finish, run, run_by_shell, run_in_session, say, unable_to_run,
+};
 use crate::folder::{ServiceFolder, SettingText};
 use crate::linger::Linger;
 use crate::listening::{Listened, ReadySlot};
 use crate::notification::{FIFO, NO_NOTIFICATION, NOTIFICATION, descriptor_in, run_notifying};
 use crate::output::make_fifos;
 use crate::processes::{AdoptedProcess, tick_of};
+use crate::remarks::{paper_name, remark_text};
 use crate::settings::{
     BACKOFF, FINISH_TIME, KILL_TIME, NO_BACKOFF, NO_FINISH_TIME, NO_KILL_TIME, backoff_seconds,
     finish_seconds, is_late, kill_seconds, seconds_in,
 };
+use crate::stat::present_tick;
 use crate::surroundings::Surroundings;
-use arrayvec::ArrayString;
-use cmd_base::{SystemClock, push_number};
+use cmd_base::SystemClock;
 use std::alloc::{AllocError, Global};
 use std::fs::File;
 use std::io;
 use std::io::{ErrorKind, PipeReader, Write};
 use std::process::{Child, Command, Processes, SystemProcess};
 use std::sync::{Arc, OnceLock, Wait};
-use std::time::{Clock, Duration};
+use std::time::Clock;
 use sup_core::Sig;
 use svc_house::Notifier;
 use svc_record::{Ending, Exit, Leftover, Place};
@@ -88,159 +87,6 @@ where
     // Why the last paper that could not be written failed.
     cause: Cause,
     linger: Linger,
-}
-
-/// What a shell does in place of a service that can't be run.
-const SAY: &str = "printf 'svscan: %s: %s\\n' \"$1\" \"$2\" >&2; exit 111";
-
-/// Returns the command that runs the service.
-fn run(alloc: Global) -> Result<Command, AllocError>
-    ensures program { IfOk result (λ command. command_program command ≡ codes "./run") }
-    ensures words { IfOk result (λ command. command_args command ≡ []) }
-{
-    Command::new(alloc, "./run")
-}
-
-/// Returns the command that runs the service in a session of its own (setsid(1)).
-fn run_in_session(alloc: Global) -> Result<Command, AllocError>
-    ensures program { IfOk result (λ command. command_program command ≡ codes "/usr/bin/setsid") }
-    ensures words { IfOk result (λ command. command_args command ≡ codes "./run" ∷ []) }
-{
-    let mut command = Command::new(alloc, "/usr/bin/setsid")?;
-    command.arg("./run")?;
-    Ok(command)
-}
-
-/// What is said about a service whose `finish` can't be run, before the cause.
-const NO_FINISH: &str = "unable to run ./finish: ";
-
-/// What is said about a service whose process can't say that it is ready, before the cause.
-const NO_FIFO: &str = "unable to make supervise/notify: ";
-
-/// What is said about a service that begins a session if there is no program for that.
-const NO_SETSID: &str = "unable to run setsid: No such file or directory";
-
-/// Returns the command of a shell that runs the service, or says why it can't and fails.
-fn run_by_shell(alloc: Global) -> Result<Command, AllocError>
-    ensures program { IfOk result (λ command. command_program command ≡ codes "/bin/sh") }
-    ensures words { IfOk result (λ command. command_args command ≡ codes "-c" ∷ codes "exec ./run" ∷ []) }
-{
-    let mut command = Command::new(alloc, "/bin/sh")?;
-    command.arg("-c")?.arg("exec ./run")?;
-    Ok(command)
-}
-
-/// Returns the command of a shell that says this about the service with this name, and fails.
-fn say(alloc: Global, name: &str, what: &str) -> Result<Command, AllocError>
-    ensures program { IfOk result (λ command. command_program command ≡ codes "/bin/sh") }
-    ensures words { IfOk result (λ command. command_args command
-        ≡ codes "-c" ∷ SAY.now ∷ codes "sh" ∷ name.now ∷ what.now ∷ []) }
-{
-    let mut command = Command::new(alloc, "/bin/sh")?;
-    command
-        .arg("-c")?
-        .arg(SAY)?
-        .arg("sh")?
-        .arg(name)?
-        .arg(what)?
-        .env_clear();
-    Ok(command)
-}
-
-/// Returns the name of a paper's file.
-fn paper_name(paper: Paper) -> &'static str
-    ensures { result.now ≡ paper_name paper }
-{
-    match paper {
-        Paper::Place => "place",
-        Paper::Process => "process",
-        Paper::Status => "status",
-        Paper::Exit => "exit",
-        Paper::Counts => "counts",
-        Paper::Ready => "ready",
-        Paper::Backoff => "backoff",
-    }
-}
-
-/// The most bytes in a remark about a service.
-const REMARK_BYTES: usize = 96;
-
-/// Returns what is said about a service. For a paper that can't be written, this includes the cause.
-fn remark_text(remark: Remark, cause: Cause) -> ArrayString<REMARK_BYTES>
-    ensures { result.bytes ≡ remark_text remark cause }
-{
-    let mut text = ArrayString::new();
-    match remark {
-        Remark::StillRuns(0) => text.push_str("unable to look for its process"),
-        Remark::StillRuns(pid) => {
-            text.push_str("process ");
-            push_number(&mut text, u64::from(pid));
-            text.push_str(" still runs");
-        }
-        Remark::Unwritten(paper) => {
-            text.push_str("unable to write ");
-            text.push_str(paper_name(paper));
-            text.push_str(": ");
-            text.push_str(cause.words());
-        }
-        Remark::AllWritten => text.push_str("all records are written again"),
-    }
-    text
-}
-
-/// Returns what is said about a `run` that can't be executed. Returns None if a shell may still run it.
-fn unable_to_run(fault: &io::Error) -> Option<&'static str>
-    ensures { option_copied result ≡ unable_to_run (error_kind fault.now) }
-{
-    match fault.kind() {
-        ErrorKind::NotFound => Some("unable to run ./run: No such file or directory"),
-        ErrorKind::PermissionDenied => Some("unable to run ./run: Permission denied"),
-        _ => None,
-    }
-}
-
-/// Returns the two words of `finish`: the exit status or -1, and the number of the signal or 0.
-fn finish_words(ending: Ending) -> (ArrayString<32>, ArrayString<32>)
-    ensures status { result.0.bytes ≡ status_word ending }
-    ensures signal { result.1.bytes ≡ signal_word ending }
-{
-    let (mut status, mut signal) = (ArrayString::new(), ArrayString::new());
-    match ending {
-        Ending::Status(number) => push_number(&mut status, u64::from(number)),
-        _ => status.push_str("-1"),
-    }
-    match ending {
-        Ending::Signal(number) => push_number(&mut signal, u64::from(number)),
-        _ => signal.push_str("0"),
-    }
-    (status, signal)
-}
-
-/// Returns the command that runs the `finish` of a service whose process ended this way.
-fn finish(alloc: Global, ending: Ending) -> Result<Command, AllocError>
-    ensures program { IfOk result (λ command. command_program command ≡ codes "./finish") }
-    ensures words { IfOk result (λ command. command_args command ≡ status_word ending ∷ signal_word ending ∷ []) }
-{
-    let (status, signal) = finish_words(ending);
-    let mut command = Command::new(alloc, "./finish")?;
-    command.arg(status.as_str())?.arg(signal.as_str())?;
-    Ok(command)
-}
-
-/// The nanoseconds in a tick of the kernel's clock, as it reports times (sysconf(3), `_SC_CLK_TCK`).
-const TICK_NANOS: u128 = 10_000_000;
-
-/// Returns the tick at this time of the running clock: no process that begins now has an earlier one. Returns the first
-/// tick if the time is not known.
-fn present_tick(now: Option<Duration>) -> u64
-    ensures { result ≡ present_tick now }
-{
-    match now {
-        Some(now) => u64::try_from(now.as_nanos() / TICK_NANOS)
-            .unwrap_or(u64::MAX)
-            .max(1),
-        None => 1,
-    }
 }
 
 impl<R> SystemChildren<R>

@@ -1,10 +1,12 @@
 //! What the kernel's line about a process reports, and what follows from that.
 ghost use Rattle.std.specs.Prelude.{◌≡◌, option_copied, slice_get};
 ghost use Rattle.sup_core.specs.Reading.{fields};
-ghost use Rattle.svc_system.specs.Stats.{behind_name, is_dead};
+ghost use Rattle.svc_system.specs.Stats.{behind_name, is_dead, present_tick};
 
+use std::time::Duration;
 use sup_core::{read_number, split_field};
 use svc_record::Seen;
+use svc_world::TICKS;
 
 /// What the line about a process reports (proc(5), `stat`).
 #[derive(Clone, Copy, Debug, PartialEq, Eq)]
@@ -112,5 +114,21 @@ impl Stat {
         ensures { result ≡ self.now.tick }
     {
         self.tick
+    }
+}
+
+/// The nanoseconds in a tick of the kernel's clock.
+const TICK_NANOS: u128 = 1_000_000_000 / TICKS;
+
+/// Returns the tick at this time of the running clock: no process that begins now has an earlier one. Returns the first
+/// tick if the time is not known.
+pub(crate) fn present_tick(now: Option<Duration>) -> u64
+    ensures { result ≡ present_tick now }
+{
+    match now {
+        Some(now) => u64::try_from(now.as_nanos() / TICK_NANOS)
+            .unwrap_or(u64::MAX)
+            .max(1),
+        None => 1,
     }
 }
