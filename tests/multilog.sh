@@ -310,11 +310,11 @@ locked() {
   inode=$(stat -c %i "$1/lock")
   until [[ $(</proc/locks) == *":$inode "* ]] || [ $((tries += 1)) -gt 20000 ]; do :; done
 }
-# becomes WANTED COMMAND..: waits until a command prints this, for at most 5 s
+# becomes WANTED COMMAND..: waits until a command prints this, for at most 20 s
 becomes() {
   local wanted=$1 tries
   shift
-  for tries in $(seq 100); do [ "$("$@" 2>/dev/null)" = "$wanted" ] && return; sleep 0.05; done
+  for tries in $(seq 400); do [ "$("$@" 2>/dev/null)" = "$wanted" ] && return; sleep 0.05; done
 }
 # left PIPE: what is in a pipe
 left() { timeout 0.3 cat <"$1"; }
@@ -404,19 +404,27 @@ is 'ALRM and TERM in a line: current' 0 "$(size turned/current)"
 is 'ALRM and TERM in a line: what is behind stays in the pipe' eight "$(left turn)"
 exec 7>&-
 
-# Three ALRMs in a flow of lines: each line is there once and in order, and each file ends with a line.
+# Three ALRMs in a flow of lines: each line is there once and in order, and each file ends with a line. Two ALRMs that come
+# together are one, so the next one waits for what the one before it does. The flow goes on until they have all come.
 mkfifo many
-(for number in $(seq 1500); do echo "$number"; sleep 0.001; done >many) &
+(
+  number=0
+  until [ "$number" -ge 1500 ] && [ -e enough ]; do echo $((number += 1)); sleep 0.001; done >many
+  echo "$number" >lines
+) &
+flow=$!
 started ./turns many
-for _ in 1 2 3; do
+for turn in 1 2 3; do
   becomes true bash -c '[ -s turns/current ] && echo true'
   kill -ALRM "$shell"
-  sleep 0.2
+  becomes "$turn" olds turns
 done
+: >enough
 wait "$shell"
 is 'three ALRMs in a flow: status' 0 "$?"
+wait "$flow"
 is 'three ALRMs in a flow: old files' 3 "$(olds turns)"
-cat turns/@* turns/current | cmp -s - <(seq 1500)
+cat turns/@* turns/current | cmp -s - <(seq "$(cat lines)")
 is 'three ALRMs in a flow: each line once, in order' 0 "$?"
 is 'three ALRMs in a flow: files that end within a line' 0 \
   "$(for f in turns/@*; do tail -c 1 "$f" | tr -d '\n'; done | wc -c)"
