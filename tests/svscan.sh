@@ -1902,7 +1902,7 @@ untaken() {
 }
 
 # svscan is served itself: its own status, a round on demand, bytes that ask for nothing.
-own() {
+itself() {
   sleeper d/web
   # It is reported each round.
   sleeper d/file
@@ -2778,7 +2778,7 @@ play_all() {
 }
 
 scenarios=(life modes_kept delegated exits endings finishes bounded_finish timed_kill timed_kill_left ready ready_left bridged backs_off backs_off_left killed_finish no_run links stubborn killed_service killed_svscan killed_early unnamed starved unwritten new_boot other_user earlier_record elsewhere changes twice names silent
-  connections no_supervise unheard rounds untaken own refused last_words upgraded unread ordered first_process two_services child begins_anew shortage
+  connections no_supervise unheard rounds untaken itself refused last_words upgraded unread ordered first_process two_services child begins_anew shortage
   descriptors_reported batches unchanged resting full_disk full_put_down placeless held_locks held_pair many_bytes raised_limit
   odd_environment unreaped bounded_end no_folder folder_away apart)
 # These keep every processor busy, and have the machine for themselves.
