@@ -32,7 +32,7 @@ while True:
     door.accept()[0].close()
 ') &
   listeners+=($!)
-  for _ in $(seq 500); do [ -e "$1/supervise/listens" ] && return; sleep 0.02; done
+  for _ in $(seq 3000); do [ -e "$1/supervise/listens" ] && return; sleep 0.02; done
   echo "nobody listens in $1"
   exit 1
 }

@@ -59,8 +59,8 @@ def reap():
 
 
 def until(seconds, is_so):
-    """Whether it is so within these seconds, three times as many on a busy machine."""
-    end = time.monotonic() + 3 * seconds
+    """Whether it is so within these seconds, six times as many on a busy machine."""
+    end = time.monotonic() + 6 * seconds
     while not is_so():
         reap()
         if time.monotonic() > end:

@@ -34,18 +34,26 @@ restarted() { ends restart "$@"; }
 ends() {
   local command=$1 name=$2 status=$3 reported=$4
   shift 4
-  timeout -k 1 120 "$program" "$command" "$@" >out 2>reported </dev/null
+  timeout -k 1 300 "$program" "$command" "$@" >out 2>reported </dev/null
   is "$name: status" "$status" "$?"
   is "$name: reported" "$reported" "$(cat reported)"
   is "$name: printed" '' "$(cat out)"
 }
 
+# whether the command that `timeout` runs has looked, and rests until its next look
+rests() {
+  local child
+  read -r child _ <"/proc/$waiting/task/$waiting/children"
+  [ "/proc/$child/exe" -ef "$program" ] && [[ $(sed 's/.*) //' "/proc/$child/stat") == S* ]]
+} 2>/dev/null
+
 # begun NAME WORDS..: starts wait with these words, whose number is left in waiting; it is still there after two looks
 begun() {
   local name=$1
   shift
-  timeout -k 1 120 "$program" wait "$@" >out 2>reported </dev/null &
+  timeout -k 1 300 "$program" wait "$@" >out 2>reported </dev/null &
   waiting=$!
+  until_true rests
   sleep 0.3
   is "$name: it waits" yes "$(kill -0 "$waiting" 2>/dev/null && echo yes)"
 }
@@ -430,11 +438,11 @@ if [ "$(id -u)" = 0 ] && command -v setpriv >/dev/null; then
   chmod 700 t/supervise
   cp "$program" "/tmp/wait.$$" && chmod 755 "/tmp/wait.$$"
   for goal in -u -d -x -r; do
-    timeout 120 setpriv --reuid=65534 --regid=65534 --clear-groups "/tmp/wait.$$" wait $goal t >out 2>reported
+    timeout 300 setpriv --reuid=65534 --regid=65534 --clear-groups "/tmp/wait.$$" wait $goal t >out 2>reported
     is "no permission: $goal: status" 111 "$?"
     is "no permission: $goal: reported" 'wait: t: unable to open supervise/ok: Permission denied' "$(cat reported)"
   done
-  timeout 120 setpriv --reuid=65534 --regid=65534 --clear-groups "/tmp/wait.$$" restart t >out 2>reported
+  timeout 300 setpriv --reuid=65534 --regid=65534 --clear-groups "/tmp/wait.$$" restart t >out 2>reported
   is 'no permission: restart: status' 111 "$?"
   is 'no permission: restart: reported' 'restart: t: unable to open supervise/ok: Permission denied' "$(cat reported)"
   rm -f "/tmp/wait.$$"
