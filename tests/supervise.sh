@@ -110,19 +110,6 @@ millis() { echo $((${EPOCHREALTIME/[.,]/} / 1000)); }
 # the processor time that a process has used, in hundredths of a second
 used() { awk '{ sub(/.*\) /, ""); print $12 + $13 }' "/proc/$1/stat"; }
 
-# stood_still FILE: looks at the clock each 20 ms until TERM comes. Adds the longest time between two looks to a file, in milliseconds
-stood_still() {
-  local last=${EPOCHREALTIME/[.,]/} now most=0 ended=
-  trap 'ended=1' TERM
-  while [ -z "$ended" ]; do
-    sleep 0.02
-    now=${EPOCHREALTIME/[.,]/}
-    [ $((now - last)) -le "$most" ] || most=$((now - last))
-    last=$now
-  done
-  echo $((most / 1000)) >>"$1"
-}
-
 # ends_by NAME LETTERS FOLDER: after these letters the supervise that was started last ends with 0, in less than a second. The time
 # for which the machine stood still meanwhile does not count.
 ends_by() {

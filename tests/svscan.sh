@@ -1969,12 +1969,18 @@ itself() {
   svc -a d/.svscan
   soon 'a: a round' 1 has_lines $((rounds + 1)) reported
   soon 'a: what is new is served' 1 is_served d/new
-  rounds=$(count reported)
-  begin=$(micros)
-  python3 ../say.py d/.svscan/supervise/control aa
-  soon 'a: again' 1 has_lines $((rounds + 2)) reported
-  # Two rounds without being asked for take at least five seconds.
-  lies 'a: tenths of a second' 0 49 $((($(changed reported) - begin) / 100000))
+  # Two rounds without being asked for take at least five seconds. A busy machine gets three tries.
+  local took=50
+  for _ in 1 2 3; do
+    [ "$took" -ge 50 ] || break
+    rounds=$(count reported)
+    begin=$(micros)
+    python3 ../say.py d/.svscan/supervise/control aa
+    until_true 2 has_lines $((rounds + 2)) reported
+    took=$((($(changed reported) - begin) / 100000))
+  done
+  so 'a: again' has_lines $((rounds + 2)) reported
+  lies 'a: tenths of a second' 0 49 "$took"
   local web
   web=$(process d/web)
   python3 ../say.py d/.svscan/supervise/control xq

@@ -570,7 +570,8 @@ ended 'nobody restarts it' 99 'wait: services/web: not restarted in time' -r -t 
 ended 'web and slow go down again' 0 '' -d -t 100 services/web services/slow
 
 # A service that ends at once, or within two seconds, and is started again and again, is never up: svwait -u returned 0 for
-# it, since for a moment before each death is taken the record says up. Each is looked at for six seconds.
+# it, since for a moment before each death is taken the record says up. Each is looked at for six seconds. On a machine that stands
+# still meanwhile the second one does live for two seconds.
 mkdir -p made/loop made/slower
 printf '#!/bin/sh\nexit 1\n' >made/loop/run
 printf '#!/bin/sh\nexec sleep 1.3\n' >made/slower/run
@@ -578,9 +579,13 @@ chmod 755 made/loop/run made/slower/run
 mv made/loop made/slower services
 until_true has_status services/loop
 until_true has_status services/slower
+look() { timeout -k 1 300 "$program" wait -u -t 6 services/loop services/slower >out 2>reported </dev/null; }
 for turn in 1 2 3; do
-  ended "a crash loop, $turn" 99 'wait: services/loop: not up in time
-wait: services/slower: not up in time' -u -t 6 services/loop services/slower
+  undisturbed look
+  is "a crash loop, $turn: status" 99 "$?"
+  is "a crash loop, $turn: reported" 'wait: services/loop: not up in time
+wait: services/slower: not up in time' "$(cat reported)"
+  is "a crash loop, $turn: printed" '' "$(cat out)"
 done
 "$program" svc -d services/loop services/slower
 ended 'a crash loop goes down' 0 '' -d -t 100 services/loop services/slower
