@@ -2254,13 +2254,13 @@ END
 # no child of a process has ended and is not waited for
 no_zombie() { ! ps -o stat= --ppid "$1" | grep -q Z; }
 
-# Two services over three rounds, each asked by the programs in turn, until the trace says how one of them ended.
+# Two services over five rounds, each asked by the programs in turn, until the trace says how one of them ended.
 two_services() {
   sleeper S
   sleeper R
   mkdir d
   ln -s ../S ../R d
-  "$program" svscan d 3 >out 2>reported </dev/null &
+  "$program" svscan d 5 >out 2>reported </dev/null &
   local svscan=$!
   soon 'svok S' 10 is_served S
   soon 'svok R' 10 is_served R
@@ -2607,17 +2607,27 @@ END
   sleeper d/web
   start_session reported1 d
   soon 'up' 8 all_are is_settled d/flow d/flow/log d/web
-  kill -KILL "$svscan"
-  soon 'svscan is dead' 3 is_gone "$svscan"
-  local lock before
-  # They are let go in the midst of svscan's patience, which lasts a second from its start.
-  for lock in d/.svscan d/flow d/web; do
-    flock -w 5 "$lock/supervise/lock" sh -c ': >"$1"; while ! [ -e begin ]; do sleep 0.02; done; sleep 0.4' sh "held.${lock##*/}" &
+  local lock before still
+  # svscan's patience lasts a second from its start. The locks are let go in the midst of it, and if the machine stands still
+  # meanwhile all is done anew.
+  for _ in 1 2 3 4 5 6; do
+    kill -KILL "$svscan"
+    soon 'svscan is dead' 3 is_gone "$svscan"
+    rm -f begin held.*
+    : >reported2
+    for lock in d/.svscan d/flow d/web; do
+      flock -w 5 "$lock/supervise/lock" sh -c ': >"$1"; while ! [ -e begin ]; do sleep 0.02; done; sleep 0.4' sh "held.${lock##*/}" &
+    done
+    soon 'they are held' 5 test -e held..svscan -a -e held.flow -a -e held.web
+    stood_still stood &
+    still=$!
+    : >begin
+    start_session reported2 d
+    soon 'the next one serves all' 15 all_are is_served d/flow d/flow/log d/web
+    kill -TERM "$still" 2>/dev/null
+    wait "$still"
+    [ "$(tail -n 1 stood 2>/dev/null || echo 0)" -ge 300 ] || break
   done
-  soon 'they are held' 5 test -e held..svscan -a -e held.flow -a -e held.web
-  : >begin
-  start_session reported2 d
-  soon 'the next one serves all' 8 all_are is_served d/flow d/flow/log d/web
   before=$(wc -c <d/flow/log/main/current)
   sleep 1
   lies 'the log has grown' 10 1000000 "$(($(wc -c <d/flow/log/main/current) - before))"
