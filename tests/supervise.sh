@@ -110,10 +110,10 @@ millis() { echo $((${EPOCHREALTIME/[.,]/} / 1000)); }
 # the processor time that a process has used, in hundredths of a second
 used() { awk '{ sub(/.*\) /, ""); print $12 + $13 }' "/proc/$1/stat"; }
 
-# ends_by NAME LETTERS FOLDER: after these letters the supervise that was started last ends with 0, in less than a second. The time
-# for which the machine stood still meanwhile does not count.
+# ends_by NAME LETTERS FOLDER [SECONDS]: after these letters the supervise that was started last ends with 0, in less than a second or
+# than so many. The time for which the machine stood still meanwhile does not count.
 ends_by() {
-  local begun status took still
+  local begun status took still seconds=${4:-1}
   stood_still stood &
   still=$!
   begun=$(millis)
@@ -124,7 +124,7 @@ ends_by() {
   kill -TERM "$still"
   wait "$still"
   is "$1: status" 0 "$status"
-  is "$1: in less than a second, $took ms" yes "$([ $((took - $(tail -n 1 stood 2>/dev/null || echo 0))) -lt 1000 ] && echo yes)"
+  is "$1: in less than $seconds s, $took ms" yes "$([ $((took - $(tail -n 1 stood 2>/dev/null || echo 0))) -lt $((seconds * 1000)) ] && echo yes)"
 }
 
 # One service through its life.
@@ -264,7 +264,8 @@ killed() {
   soon 'supervise takes it from svscan' 5 is_served d/web
   is 'from svscan: the same process' "$first" "$(process d/web)"
   is 'it started once' 1 "$(wc -l <d/web/starts)"
-  ends_by 'dx' -dx d/web
+  # The process is no child of it: that is looked at once a second, and every two seconds if nobody waits for a dead one.
+  ends_by 'dx' -dx d/web 3
   soon 'dx: the process is gone' 2 not lives "$first"
   is 'nothing is said' '' "$(cat reported reported2)"
 }
