@@ -45,7 +45,7 @@ for script in "${wanted[@]}"; do
   read -ra words <<<"$script"
   run "${words[@]}" >"$printed/said/$script" 2>&1 </dev/null &
   running[$script]=$!
-  # These come first and alone: next to the other scripts a svscan of theirs was sometimes killed, and it is not known by whom.
+  # These come first and alone: they keep some hundred svscans busy.
   [ "$script" != 'faults svscan' ] || wait "$!"
 done
 status=0

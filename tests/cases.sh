@@ -14,7 +14,7 @@ run_case() {
   [ -e "$here/cases/$name" ] && input=$here/cases/$name
   words=("${words[@]/#\{\}/$here/cases/$name}")
   mkdir -p empty
-  (cd empty && timeout 20 "$program" "${words[@]}" <"$input" >../printed 2>../reported)
+  (cd empty && timeout 120 "$program" "${words[@]}" <"$input" >../printed 2>../reported)
   status=$?
   if [ -e "$here/cases/$name.stdout" ] && cmp -s printed "$here/cases/$name.stdout"; then
     output=' output=expected'

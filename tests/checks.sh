@@ -32,7 +32,7 @@ while True:
     door.accept()[0].close()
 ') &
   listeners+=($!)
-  for _ in $(seq 500); do [ -e "$1/supervise/listens" ] && return; sleep 0.02; done
+  for _ in $(seq 3000); do [ -e "$1/supervise/listens" ] && return; sleep 0.02; done
   echo "nobody listens in $1"
   exit 1
 }
@@ -64,6 +64,34 @@ own() {
 kill_group() {
   [ -z "$(folder_of "$1")" ] || [ -n "$(own "$1")" ] || return 0
   kill -KILL -- "-$1" 2>/dev/null
+}
+
+# stood_still FILE: looks at the clock each 20 ms until TERM comes. Adds the longest time between two looks to a file, in milliseconds
+stood_still() {
+  local last=${EPOCHREALTIME/[.,]/} now most=0 ended=
+  trap 'ended=1' TERM
+  while [ -z "$ended" ]; do
+    sleep 0.02
+    now=${EPOCHREALTIME/[.,]/}
+    [ $((now - last)) -le "$most" ] || most=$((now - last))
+    last=$now
+  done
+  echo $((most / 1000)) >>"$1"
+}
+
+# undisturbed COMMAND..: runs the command, and anew up to eight times as long as the machine stood still meanwhile, for 0.3 s or more
+undisturbed() {
+  local status still
+  for _ in 1 2 3 4 5 6 7 8; do
+    stood_still stood &
+    still=$!
+    "$@"
+    status=$?
+    kill -TERM "$still" 2>/dev/null
+    wait "$still"
+    [ "$(tail -n 1 stood 2>/dev/null || echo 0)" -ge 300 ] || break
+  done
+  return "$status"
 }
 
 # counts NAME: how many checks there were, and how many failed; fails if one did

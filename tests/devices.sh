@@ -20,7 +20,7 @@ over() {
   rm -rf tried
   mkdir tried
   # shellcheck disable=SC2086
-  reported=$(cd tried && timeout 60 env LD_PRELOAD="$room/$library.so" CLOCK=0 $settings "$program" multilog "$@" 2>&1 <../in)
+  reported=$(cd tried && timeout 240 env LD_PRELOAD="$room/$library.so" CLOCK=0 $settings "$program" multilog "$@" 2>&1 <../in)
   status=$?
 }
 # by SETTINGS WORDS..: the program over the file `in`, by way of both libraries, with these variables. What it prints is left
@@ -29,7 +29,7 @@ by() {
   local settings=$1 both=$room/devices.so:$room/faults.so
   shift
   # shellcheck disable=SC2086
-  reported=$(timeout 60 env LD_PRELOAD="$both" FAULT_MET=met $settings "$program" "$@" 2>&1 >out <in)
+  reported=$(timeout 240 env LD_PRELOAD="$both" FAULT_MET=met $settings "$program" "$@" 2>&1 >out <in)
   status=$?
 }
 # so many `a`, and then this

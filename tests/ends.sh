@@ -15,11 +15,11 @@ leave() {
 trap leave EXIT
 export DTOOLS=$program
 
-# soon NAME COMMAND..: the command succeeds within ten seconds
+# soon NAME COMMAND..: the command succeeds within a minute
 soon() {
   local name=$1 seen=
   shift
-  for _ in $(seq 200); do "$@" >/dev/null 2>&1 && { seen=yes; break; }; sleep 0.05; done
+  for _ in $(seq 1200); do "$@" >/dev/null 2>&1 && { seen=yes; break; }; sleep 0.05; done
   is "$name" yes "$seen"
 }
 number_of() { "$program" svstat "$1" | sed -n 's/.*up (pid \([0-9]*\)).*/\1/p'; }
@@ -69,7 +69,7 @@ END
 limit_of() {
   rm -f d/web/limit
   begin bash -c "ulimit -Sn $1; exec \"\$0\" d" "$top/scripts/svscan-run"
-  for _ in $(seq 200); do [ -s d/web/limit ] && break; sleep 0.05; done
+  for _ in $(seq 1200); do [ -s d/web/limit ] && break; sleep 0.05; done
   cat d/web/limit
   kill -TERM "$begun"
   wait "$begun"

@@ -18,16 +18,16 @@ trap leave EXIT
 ended() {
   local name=$1 status=$2 printed=$3 reported=$4
   shift 4
-  timeout 20 "$@" >out 2>reported </dev/null
+  timeout 120 "$@" >out 2>reported </dev/null
   is "$name: status" "$status" "$?"
   is "$name: printed" "$printed" "$(cat out)"
   is "$name: reported" "$reported" "$(cat reported)"
 }
 
-# until_true COMMAND..: within 10 s
+# until_true COMMAND..: within a minute
 until_true() {
   local looks
-  for looks in {1..200}; do
+  for looks in {1..1200}; do
     "$@" >/dev/null 2>&1 && return
     sleep 0.05
   done
@@ -228,7 +228,10 @@ has_started() { [ -s daemons ] && [ "$(wc -l <daemons)" -eq "$1" ]; }
 svscan=$!
 disown
 is 'the first daemon' yes "$(until_true has_started 1 && echo yes)"
-is 'it is the one that svstat shows' "$(cat daemons)" "$("$program" svstat s/web | sed 's/.*(pid \([0-9]*\)).*/\1/')"
+shown() { "$program" svstat s/web | sed 's/.*(pid \([0-9]*\)).*/\1/'; }
+is_shown() { [ "$(shown)" = "$(cat daemons)" ]; }
+until_true is_shown
+is 'it is the one that svstat shows' "$(cat daemons)" "$(shown)"
 "$program" svc -t s/web
 is 'the second daemon' yes "$(until_true has_started 2 && echo yes)"
 is 'one daemon after -t' "$(tail -n 1 daemons)" "$(alive)"

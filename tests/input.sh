@@ -28,7 +28,7 @@ time.sleep(600)
 ' &
 listener=$!
 disown
-for _ in $(seq 500); do [ -e ready ] && break; sleep 0.02; done
+for _ in $(seq 3000); do [ -e ready ] && break; sleep 0.02; done
 [ -e ready ] || { echo 'input: nobody listens'; exit 1; }
 
 # Records: a paused service that is to go down and to end. wanted says what `svstat --json` must say of each, without the time.

@@ -13,7 +13,7 @@ real=/usr/bin/tai64nlocal
 dpkg -S "$real" 2>/dev/null | grep -q ^daemontools: || real=
 
 # localised ZONE: what becomes of the standard input
-localised() { TZ=$1 timeout 20 "$program" tai64nlocal; }
+localised() { TZ=$1 timeout 120 "$program" tai64nlocal; }
 
 # becomes NAME ZONE TEXT WANTED: both with the escapes of printf
 becomes() { is "$1" "$(printf "$4" | od -An -c)" "$(printf "$3" | localised "$2" | od -An -c)"; }
@@ -59,7 +59,7 @@ if command -v cc >/dev/null && cc -O1 -shared -fPIC -o faults.so "$top/tests/fau
     right=$(echo "$noon" | localised "$zone")
     for number in {1..60}; do
       rm -f met
-      got=$(echo "$noon" | TZ=$zone FAULT=malloc:$number:12 FAULT_MET=met LD_PRELOAD=./faults.so timeout 20 "$program" tai64nlocal 2>reported)
+      got=$(echo "$noon" | TZ=$zone FAULT=malloc:$number:12 FAULT_MET=met LD_PRELOAD=./faults.so timeout 120 "$program" tai64nlocal 2>reported)
       status=$?
       [ -e met ] || break
       [ "$status" = 0 ] && is "memory refused, $zone, $number" "$right" "$got"
@@ -111,7 +111,7 @@ exec 3>waits
 printf '%s now\nfront of a line' "$noon" >&3
 until_shown() {
   local looks
-  for looks in {1..100}; do [ "$(cat shown)" = "$1" ] && echo yes && return; sleep 0.05; done
+  for looks in {1..1200}; do [ "$(cat shown)" = "$1" ] && echo yes && return; sleep 0.05; done
   cat shown
 }
 is 'written before the next read' yes "$(until_shown "$time now

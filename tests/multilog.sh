@@ -14,7 +14,7 @@ trap '[ -n "$mounted" ] && umount "$room/small" 2>/dev/null; rm -rf "$room"' EXI
 ended() {
   local name=$1 status=$2 reported=$3
   shift 3
-  timeout 20 "$program" multilog "$@" <in >out 2>reported
+  timeout 120 "$program" multilog "$@" <in >out 2>reported
   is "$name: status" "$status" "$?"
   is "$name: reported" "$reported" "$(cat reported)"
   is "$name: printed" '' "$(cat out)"
@@ -215,10 +215,10 @@ ended 'one folder by two names' 111 'multilog: unable to open ./a/: locked by an
 # A second multilog is refused and harms nothing.
 mkfifo pipe
 exec 3<>pipe
-timeout 20 "$program" multilog t ./shared <pipe 2>first 3>&- &
+timeout 120 "$program" multilog t ./shared <pipe 2>first 3>&- &
 first=$!
 echo one >&3
-for _ in $(seq 100); do [ -s shared/current ] && break; sleep 0.05; done
+for _ in $(seq 400); do [ -s shared/current ] && break; sleep 0.05; done
 is 'what was read is appended' 1 "$(wc -l <shared/current)"
 before=$(md5sum <shared/current)
 ended 'a second one' 111 'multilog: unable to open ./shared: locked by another process' t ./shared
@@ -257,7 +257,7 @@ yes 'a line of text' | head -n 200000 >in
 (
   trap '' XFSZ
   ulimit -f 40
-  timeout 20 "$program" multilog s16777215 ./limited <in 2>reported
+  timeout 120 "$program" multilog s16777215 ./limited <in 2>reported
   is 'a limit' 111 "$?"
   is 'a limit: reported' 'multilog: Store: unable to write ./limited/current: File too large' "$(cat reported)"
   cmp -s <(head -c "$(size limited/current)" in) limited/current
@@ -277,7 +277,7 @@ fi
 # over by that. A status file is made anew next to the old one, and takes its place whole.
 if command -v cc >/dev/null && cc -shared -fPIC -o calls.so "$calls" -ldl 2>/dev/null; then
   for number in {1..400}; do echo "line $number of the log, which has some more words"; done >in
-  CALLS=noted LD_PRELOAD=./calls.so timeout 20 "$program" multilog s4096 n2 ./noting '-*' '+*9 of*' =noted.status <in 2>reported
+  CALLS=noted LD_PRELOAD=./calls.so timeout 120 "$program" multilog s4096 n2 ./noting '-*' '+*9 of*' =noted.status <in 2>reported
   is 'calls: status' 0 "$?"
   sed 's/@[0-9a-f]*\.s/@/' noted | grep -a noting/ >main
   finished=$(grep -c '^rename ' main)
@@ -290,7 +290,7 @@ if command -v cc >/dev/null && cc -shared -fPIC -o calls.so "$calls" -ldl 2>/dev
   is 'calls: status files' 0 "$(paste -sd ' ' statuses | sed -E 's/open noted\.status\.new write noted\.status\.new( sync noted\.status\.new)? rename( over)? noted\.status\.new noted\.status ?//g' | wc -w)"
   is 'calls: there were status files' true "$([ "$(grep -c rename statuses)" -ge 10 ] && echo true)"
   # A file that another one made in the last moment has the name of the next old log.
-  CALLS=again CALLS_MAKES=1 LD_PRELOAD=./calls.so timeout 20 "$program" multilog s4096 ./held <in 2>reported
+  CALLS=again CALLS_MAKES=1 LD_PRELOAD=./calls.so timeout 120 "$program" multilog s4096 ./held <in 2>reported
   is 'calls: a name that is there' '111 multilog: Store: unable to finish ./held/current: File exists' "$? $(cat reported)"
   is 'calls: it is not written over' kept "$(cat ./held/@*.s)"
   is 'calls: no log is renamed' '' "$(grep '^rename' again)"
@@ -305,26 +305,41 @@ started() {
 }
 # locked FOLDER: waits until somebody has the lock of a log
 locked() {
-  local tries=0 inode
+  local end=$((SECONDS + 60)) inode
   [ -e "$1/lock" ] || { mkdir -p "$1" && : >"$1/lock"; }
   inode=$(stat -c %i "$1/lock")
-  until [[ $(</proc/locks) == *":$inode "* ]] || [ $((tries += 1)) -gt 20000 ]; do :; done
+  until [[ $(</proc/locks) == *":$inode "* ]] || [ "$SECONDS" -gt "$end" ]; do :; done
 }
-# becomes WANTED COMMAND..: waits until a command prints this, for at most 5 s
+# becomes WANTED COMMAND..: waits until a command prints this, for at most 20 s
 becomes() {
   local wanted=$1 tries
   shift
-  for tries in $(seq 100); do [ "$("$@" 2>/dev/null)" = "$wanted" ] && return; sleep 0.05; done
+  for tries in $(seq 400); do [ "$("$@" 2>/dev/null)" = "$wanted" ] && return; sleep 0.05; done
 }
-# left PIPE: what is in a pipe
-left() { timeout 0.3 cat <"$1"; }
+# left PIPE: what is in a pipe, in which a line is at least
+left() { local line; { IFS= read -r -t 20 line; echo "$line"; timeout 0.3 cat; } <"$1"; }
+# taken: how many bytes the logger has read; it has taken an ALRM once it has read one more
+taken() { sed -n 's/^rchar: //p' "/proc/$logger/io"; }
+# rotates: sends ALRM, and waits until the logger has taken it
+rotates() {
+  local before
+  before=$(taken)
+  kill -ALRM "$shell"
+  becomes $((before + 1)) taken
+}
+# stops: sends TERM, and waits until the wrapper has closed the channel
+channel() { [ -e "/proc/$shell/fd/4" ] && echo open || echo closed; }
+stops() {
+  kill -TERM "$shell"
+  becomes closed channel
+}
 
 mkfifo half
 exec 7<>half
 started ./halves half
 printf 'one\ntwo\nthr' >&7
 becomes "$(printf 'one\ntwo')" head -n 2 halves/current
-kill -TERM "$shell"
+stops
 sleep 0.2
 is 'TERM in a line: the logger goes on' yes "$([ -d "/proc/$logger" ] && echo yes)"
 printf 'ee\nfour\n' >&7
@@ -334,7 +349,6 @@ is 'TERM in a line: current' 'one two three' "$(xargs <halves/current)"
 started ./halves half
 becomes four tail -n 1 halves/current
 # It is in a line once it has read these two bytes.
-taken() { sed -n 's/^rchar: //p' "/proc/$logger/io"; }
 before=$(taken)
 printf fi >&7
 becomes $((before + 2)) taken
@@ -366,7 +380,7 @@ olds_hold() { cat "$1/"@* 2>/dev/null | xargs; }
 mkfifo turn
 exec 7<>turn
 started ./turned turn
-kill -ALRM "$shell"
+rotates
 sleep 0.2
 is 'ALRM, all is empty: no old file' '0 0' "$(olds turned) $(size turned/current)"
 printf 'one\ntwo\n' >&7
@@ -377,12 +391,12 @@ is 'ALRM, idle: old file' 'one two' "$(olds_hold turned)"
 becomes 0 size turned/current
 is 'ALRM, idle: current' 0 "$(size turned/current)"
 is 'ALRM, idle: name' 1 "$(ls turned | grep -c -E '^@[0-9a-f]{24}\.s$')"
-kill -ALRM "$shell"
+rotates
 sleep 0.2
 is 'ALRM, current is empty: it is left alone' '1 0' "$(olds turned) $(size turned/current)"
 printf 'three\nfo' >&7
 becomes three head -n 1 turned/current
-kill -ALRM "$shell"
+rotates
 sleep 0.2
 is 'ALRM in a line: it waits for the newline' 1 "$(olds turned)"
 printf 'ur\nfive\n' >&7
@@ -392,10 +406,8 @@ is 'ALRM in a line: old files' 'one two three four' "$(olds_hold turned)"
 is 'ALRM in a line: current' five "$(cat turned/current)"
 printf 'six\nsev' >&7
 becomes six grep -x six turned/current
-kill -ALRM "$shell"
-sleep 0.1
-kill -TERM "$shell"
-sleep 0.1
+rotates
+stops
 printf 'en\neight\n' >&7
 wait "$shell"
 is 'ALRM and TERM in a line: status' 0 "$?"
@@ -404,19 +416,27 @@ is 'ALRM and TERM in a line: current' 0 "$(size turned/current)"
 is 'ALRM and TERM in a line: what is behind stays in the pipe' eight "$(left turn)"
 exec 7>&-
 
-# Three ALRMs in a flow of lines: each line is there once and in order, and each file ends with a line.
+# Three ALRMs in a flow of lines: each line is there once and in order, and each file ends with a line. Two ALRMs that come
+# together are one, so the next one waits for what the one before it does. The flow goes on until they have all come.
 mkfifo many
-(for number in $(seq 1500); do echo "$number"; sleep 0.001; done >many) &
+(
+  number=0
+  until [ "$number" -ge 1500 ] && [ -e enough ]; do echo $((number += 1)); sleep 0.001; done >many
+  echo "$number" >lines
+) &
+flow=$!
 started ./turns many
-for _ in 1 2 3; do
+for turn in 1 2 3; do
   becomes true bash -c '[ -s turns/current ] && echo true'
   kill -ALRM "$shell"
-  sleep 0.2
+  becomes "$turn" olds turns
 done
+: >enough
 wait "$shell"
 is 'three ALRMs in a flow: status' 0 "$?"
+wait "$flow"
 is 'three ALRMs in a flow: old files' 3 "$(olds turns)"
-cat turns/@* turns/current | cmp -s - <(seq 1500)
+cat turns/@* turns/current | cmp -s - <(seq "$(cat lines)")
 is 'three ALRMs in a flow: each line once, in order' 0 "$?"
 is 'three ALRMs in a flow: files that end within a line' 0 \
   "$(for f in turns/@*; do tail -c 1 "$f" | tr -d '\n'; done | wc -c)"
@@ -428,8 +448,8 @@ heard() {
   local words=$1
   shift
   exec 9< <(printf %s "$words")
-  sleep 0.2
-  DTOOLS_STOP_FD=3 timeout 20 "$program" multilog "$@" 3<&9 9<&- </dev/null
+  wait $!
+  DTOOLS_STOP_FD=3 timeout 120 "$program" multilog "$@" 3<&9 9<&- </dev/null
 }
 mkdir -p by/one by/two by/three by/four
 printf 'first\n' >by/one/current
@@ -452,18 +472,22 @@ heard aaa ./by/four
 is 'three rotations, one line' '0 1' "$? $(olds by/four)"
 
 # 40 TERMs in a flow of lines: each is in the log once, and in order, and each logger exits 0.
-# asked_40_times NAME COUNT PAUSE: lines with numbers up to COUNT, each after a pause of so many seconds
+# asked_40_times NAME COUNT PAUSE: lines with numbers up to COUNT, or more until all TERMs were sent, each after a pause of so many
+# seconds
 asked_40_times() {
-  local turn ends=0
+  local turn ends=0 logged
   mkfifo "flow$1"
   python3 -c '
-import sys, time
-count, pause = int(sys.argv[1]), float(sys.argv[2])
+import os, sys, time
+count, pause, number = int(sys.argv[1]), float(sys.argv[2]), 0
 out = open(sys.argv[3], "w", 1 << 16 if pause == 0 else 1)
-for number in range(1, count + 1):
+while number < count or number % 10 or not os.path.exists(sys.argv[3] + ".enough"):
+    number += 1
     print(number, file=out)
     if pause: time.sleep(pause)
+open(sys.argv[3] + ".count", "w").write(str(number))
 ' "$2" "$3" "flow$1" &
+  flow=$!
   exec 6<"flow$1"
   for turn in $(seq 40); do
     started "./flow$1.log" /dev/fd/6
@@ -472,9 +496,12 @@ for number in range(1, count + 1):
     wait "$shell" || ends=$((ends + 1))
   done
   is "40 TERMs, $1: loggers that failed" 0 "$ends"
-  is "40 TERMs, $1: lines are left" true "$([ "$(cat "flow$1.log/"@* "flow$1.log/current" 2>/dev/null | wc -l)" -lt "$2" ] && echo true)"
+  logged=$(cat "flow$1.log/"@* "flow$1.log/current" 2>/dev/null | wc -l)
+  : >"flow$1.enough"
   "$wrapper" n100000 "./flow$1.log" <&6
-  cat "flow$1.log/"@* "flow$1.log/current" 2>/dev/null | cmp -s - <(seq "$2")
+  wait "$flow"
+  is "40 TERMs, $1: lines are left" true "$([ "$logged" -lt "$(cat "flow$1.count")" ] && echo true)"
+  cat "flow$1.log/"@* "flow$1.log/current" 2>/dev/null | cmp -s - <(seq "$(cat "flow$1.count")")
   is "40 TERMs, $1: each line once, in order" 0 "$?"
   exec 6<&-
 }
@@ -485,12 +512,12 @@ asked_40_times 3 150 0.02
 # The channel is the pipe that the environment names; if it names none there is none, and TERM ends the program.
 echo x >in
 for channel in x '' 0 2 9 -1 4294967299; do
-  DTOOLS_STOP_FD=$channel timeout 20 "$program" multilog ./named <in 3>&- 9>&-
+  DTOOLS_STOP_FD=$channel timeout 120 "$program" multilog ./named <in 3>&- 9>&-
   is "a channel of number '$channel'" 0 "$?"
 done
-DTOOLS_STOP_FD=3 timeout 20 "$program" multilog ./named <in 3>&-
+DTOOLS_STOP_FD=3 timeout 120 "$program" multilog ./named <in 3>&-
 is 'a channel that is not open' 0 "$?"
-DTOOLS_STOP_FD=3 timeout 20 "$program" multilog ./named <in 3</dev/null
+DTOOLS_STOP_FD=3 timeout 120 "$program" multilog ./named <in 3</dev/null
 is 'a channel that is no pipe' 0 "$?"
 is 'no channel: all is read' 9 "$(wc -l <named/current)"
 # The word is in the channel before the program begins, which looks at it first.
@@ -499,11 +526,11 @@ printf x >word
 for word in word end; do
   exec 9< <(cat "$word")
   wait $!
-  DTOOLS_STOP_FD=3 timeout 20 "$program" multilog ./named <in 3<&9 9<&-
+  DTOOLS_STOP_FD=3 timeout 120 "$program" multilog ./named <in 3<&9 9<&-
   is "a stop by a byte or the end: $word" '0 9' "$? $(wc -l <named/current)"
   exec 9<&-
 done
-is 'another command has no channel' 1 "$(DTOOLS_STOP_FD=3 timeout 20 "$program" tai64n <in 3< <(:) | wc -l)"
+is 'another command has no channel' 1 "$(DTOOLS_STOP_FD=3 timeout 120 "$program" tai64n <in 3< <(:) | wc -l)"
 
 # Stamps: the clock is read once a read, and lines that were read together differ by a nanosecond each; so they rise, also
 # if the clock goes back.
@@ -522,10 +549,12 @@ is 'stamps: each line has one' 100000 "$(grep -c -E '^@[0-9a-f]{24} [0-9]+$' tim
 is 'stamps: they rise' yes "$(cut -c 1-25 times/current | LC_ALL=C sort -cu 2>/dev/null && echo yes)"
 is 'stamps: lines of one read' 99 "$(apart times/current 1 100)"
 is 'stamps: they are of now' true "$([ $(($(date +%s) + 10 - $(nanos "$(tail -n 1 times/current)") / 1000000000)) -lt 60 ] && echo true)"
-(echo one; sleep 0.3; echo two) | "$program" multilog t ./waited
+# until_some FILES..: waits until one of these files has something in it
+until_some() { for _ in $(seq 400); do cat "$@" 2>/dev/null | grep -q . && return; sleep 0.05; done; }
+(echo one; until_some waited/current; sleep 0.3; echo two) | "$program" multilog t ./waited
 is 'stamps: the clock is read anew after a wait' true "$([ "$(apart waited/current 1 2)" -ge 250000000 ] && echo true)"
-exec 9< <(sleep 0.5; printf a; sleep 0.3)
-DTOOLS_STOP_FD=3 timeout 20 "$program" multilog t ./idled 3<&9 9<&- < <(echo line; sleep 2)
+exec 9< <(until_some idled/current; sleep 0.5; printf a; until_some idled/@*)
+DTOOLS_STOP_FD=3 timeout 120 "$program" multilog t ./idled 3<&9 9<&- < <(echo line; until_some idled/@*; sleep 2)
 exec 9<&-
 is 'stamps: a rotation has its own time' true \
   "$([ $(($(nanos "$(basename idled/@*)") - $(nanos "$(cat idled/@*)"))) -ge 250000000 ] && echo true)"

@@ -25,7 +25,7 @@ service() {
 scan() {
   setsid "$program" svscan "$1" >/dev/null 2>"$1.said" </dev/null &
   groups+=($!)
-  "$program" wait -u -t 60 "$1/web" && return
+  "$program" wait -u -t 240 "$1/web" && return
   cat "$1.said"
   exit 1
 }
@@ -34,7 +34,7 @@ scan() {
 ended() {
   local name=$1 status=$2 printed=$3 reported=$4
   shift 4
-  (cd "$room/work" && timeout -k 1 60 "$program" "$@" >"$room/out" 2>"$room/reported" </dev/null)
+  (cd "$room/work" && timeout -k 1 240 "$program" "$@" >"$room/out" 2>"$room/reported" </dev/null)
   is "$name: status" "$status" "$?"
   is "$name: printed" "$printed" "$(sed -E 's/\(pid [0-9]+\) [0-9]+ s/(pid N) N s/; s/down [0-9]+ s/down N s/' out)"
   is "$name: reported" "$reported" "$(tr -d '\0' <reported)"
@@ -54,7 +54,7 @@ service work/both
 service "all/with space"
 service all/$'line\nend'
 scan all
-"$program" wait -u -t 60 all/both all/-u 'all/with space' all/$'line\nend' || exit 1
+"$program" wait -u -t 240 all/both all/-u 'all/with space' all/$'line\nend' || exit 1
 
 scenario='without SVDIR'
 ended svstat 0 'web: supervise not running' "svstat: web: $none" svstat web
@@ -82,18 +82,18 @@ export SVDIR=$room/all
 ended svstat 0 'web: up (pid N) N seconds' '' svstat web
 ended svok 0 '' '' svok web
 ended svc 0 '' '' svc -p web
-"$program" wait -u -t 60 all/web
+"$program" wait -u -t 240 all/web
 ended 'svstat of a paused one' 0 'web: up (pid N) N seconds, paused' '' svstat web
 ended svc 0 '' '' svc -c web
-ended wait 0 '' '' wait -u -t 60 web
+ended wait 0 '' '' wait -u -t 240 web
 before=$(process all/web)
-ended restart 0 '' '' restart -t 60 web
+ended restart 0 '' '' restart -t 240 web
 is 'restart: another process' yes "$([ "$(process all/web)" != "$before" ] && echo yes)"
 ended 'svc -d' 0 '' '' svc -d web
-ended 'wait -d' 0 '' '' wait -d -t 60 web
+ended 'wait -d' 0 '' '' wait -d -t 240 web
 ended 'svstat of one that is down' 0 'web: down N seconds, normally up' '' svstat web
 ended 'svc -u' 0 '' '' svc -u web
-ended 'wait -u' 0 '' '' wait -u -t 60 web
+ended 'wait -u' 0 '' '' wait -u -t 240 web
 (cd work && "$program" trace web) >by_name
 "$program" trace all/web >by_path
 is 'trace by name' "$(cat by_path)" "$(cat by_name)"
@@ -140,7 +140,7 @@ echo no service >all/file
 ln -s "$room/all/web" all/zlink
 ln -s nowhere all/znone
 mkdir 'all/'$'\xff'
-"$program" wait -u -t 60 all/--json all/web/log all/zlink || exit 1
+"$program" wait -u -t 240 all/--json all/web/log all/zlink || exit 1
 # rows SHADE NAMES..: a line for each, with the states in one column. Names of more than 32 bytes are not counted.
 rows() {
   local shade=$1 width=0 name
@@ -167,10 +167,10 @@ if command -v python3 >/dev/null; then
   is 'a terminal, NO_COLOR' "$(rows up "${list[@]}")" "$(NO_COLOR=1 terminal svstat)"
   is 'a terminal, and a service' 'web: up (pid N) N seconds' "$(terminal svstat web)"
   touch all/both/down
-  "$program" svc -d all/both && "$program" wait -d -t 60 all/both
+  "$program" svc -d all/both && "$program" wait -d -t 240 all/both
   is 'a terminal: down' $'\e[33mdown\e[0m N seconds' "$(terminal svstat | sed -n 's|.*/both: *||p')"
   rm all/both/down
-  "$program" svc -u all/both && "$program" wait -u -t 60 all/both
+  "$program" svc -u all/both && "$program" wait -u -t 240 all/both
 fi
 is 'json of all' 7 "$(cd work && "$program" svstat --json | grep -c '"path"')"
 is 'json of all with loggers' 9 "$(cd work && "$program" svstat -l --json | grep -c '"path"')"

@@ -64,7 +64,7 @@ chmod 777 /tmp/own
 # counted FOLDER COMMAND..: whether svscan-runs finds a svscan over the folder, started by this command
 counted() {
   "${@:2}" /usr/bin/dtools svscan "$1" >/dev/null 2>&1 </dev/null &
-  sleep 0.7
+  for _ in $(seq 600); do /usr/lib/dtools/bin/svok "$1/.svscan" && break; sleep 0.1; done
   /usr/lib/dtools/svscan-runs
   echo $?
   kill "$!" && wait "$!" 2>/dev/null
@@ -79,7 +79,7 @@ set -m
 runner=$!
 set +m
 cd /checked
-for _ in $(seq 100); do [ -s "$folder/web/log/main/current" ] && [ -n "$(pid)" ] && break; sleep 0.1; done
+for _ in $(seq 600); do [ -s "$folder/web/log/main/current" ] && [ -n "$(pid)" ] && break; sleep 0.1; done
 is 'the first minute: a line is logged' hello "$(head -n 1 "$folder/web/log/main/current" | cut -d ' ' -f 2-)"
 before=$(pid)
 is 'the first minute: it is up' yes "$([ -n "$before" ] && echo yes)"
@@ -95,7 +95,7 @@ set -m
 /usr/lib/dtools/bin/svscan-run "$folder" >printed 2>&1 &
 runner=$!
 set +m
-for _ in $(seq 100); do [ "$(pid)" = "$before" ] && break; sleep 0.1; done
+for _ in $(seq 600); do [ "$(pid)" = "$before" ] && break; sleep 0.1; done
 is 'the new svscan has it' "$before" "$(pid)"
 dpkg -r dtools >said 2>&1
 is 'it does not go while services run' 1 "$?"
@@ -119,7 +119,7 @@ enter() {
   cp before/*.deb "$1/checked/before.deb"
   cp inside minute "$1/checked"
   sed -n '/^# is NAME/,$p' "$top/tests/checks.sh" >"$1/checked/checks"
-  timeout 240 unshare --mount --pid --fork --kill-child bash -c 'mount -t proc proc "$1/proc" && exec chroot "$1" bash /checked/inside' bash "$1"
+  timeout 900 unshare --mount --pid --fork --kill-child bash -c 'mount -t proc proc "$1/proc" && exec chroot "$1" bash /checked/inside' bash "$1"
   local ran=1 wrong=1
   read -r ran wrong <"$1/checked/counts"
   checked=$((checked + ran))

@@ -83,7 +83,7 @@ END
 page() {
   local name=$1
   shift
-  timeout 20 "$program" svstat --html "$@" >page.html 2>reported </dev/null
+  timeout 120 "$program" svstat --html "$@" >page.html 2>reported </dev/null
   is "$name: status" 0 "$?"
 }
 none='No such file or directory'
@@ -166,7 +166,7 @@ is 'names: elements' "$(echo "$everything" | sed 's/ rect / /; s/ svg / /')" "$(
 mkdir -p all/web/log all/db
 SVDIR=$room/all page 'all'
 is 'all' 'db web' "$(python3 read.py names <page.html | xargs)"
-SVDIR=$room/all timeout 20 "$program" svstat -l --html >page.html 2>reported
+SVDIR=$room/all timeout 120 "$program" svstat -l --html >page.html 2>reported
 is 'all with loggers' "db web $room/all/web/log" "$(python3 read.py names <page.html | xargs)"
 "$program" svstat --html s >/dev/full 2>reported
 is 'a full device' '111 svstat: write fault: No space left on device' "$? $(cat reported)"
@@ -195,7 +195,7 @@ bytes "$(record 7200 4711 $up)" >s/supervise/status
 trace s 0 starting "$(record 7300 0 $up)" 'started 4711 7200' 'clock 7199'
 # browse OPTIONS..: the browser on the page, with a home of its own
 browse() {
-  HOME=$room timeout 60 "$browser" --headless --no-sandbox --disable-gpu --user-data-dir="$room/profile" --virtual-time-budget=2000 \
+  HOME=$room timeout 300 "$browser" --headless --no-sandbox --disable-gpu --user-data-dir="$room/profile" --virtual-time-budget=2000 \
     "$@" "file://$room/page.html" 2>browsed
 }
 page 'browser' s "${names[@]}"

@@ -32,7 +32,7 @@ object() {
   local name=$1 wanted=$2 before status
   shift 2
   before=$(date +%s)
-  timeout 20 "$program" svstat --json "$@" >out 2>reported </dev/null
+  timeout 120 "$program" svstat --json "$@" >out 2>reported </dev/null
   status=$?
   is "$name: status" 0 "$status"
   is "$name: reported" "${missing-}" "$(cat reported)"
@@ -208,7 +208,7 @@ metrics() {
   local name=$1 wanted=$2 before status
   shift 2
   before=$(date +%s)
-  timeout 20 "$program" svstat --metrics "$@" >out 2>reported </dev/null
+  timeout 120 "$program" svstat --metrics "$@" >out 2>reported </dev/null
   status=$?
   is "$name: status" 0 "$status"
   is "$name: reported" "${missing-}" "$(cat reported)"
@@ -346,10 +346,10 @@ metrics 'metrics: no service' ''
 missing=$(lacks nosuch nosuch) object 'a service twice' "$(printf '%s\n' 'up=false error="supervise not running"' 'up=false error="supervise not running"')" nosuch nosuch
 is 'a form is the first word alone' "nosuch: supervise not running
 $room/--json: unable to read status" "$(rm "$room/--json/supervise/status" && "$program" svstat nosuch "$room/--json" 2>/dev/null)"
-timeout 20 "$program" svstat --json nosuch >/dev/full 2>reported </dev/null
+timeout 120 "$program" svstat --json nosuch >/dev/full 2>reported </dev/null
 is 'a full device: status' 111 "$?"
 is 'a full device: reported' 'svstat: write fault: No space left on device' "$(cat reported)"
-timeout 20 "$program" svstat --metrics nosuch >/dev/full 2>reported </dev/null
+timeout 120 "$program" svstat --metrics nosuch >/dev/full 2>reported </dev/null
 is 'metrics: a full device: status' 111 "$?"
 is 'metrics: a full device: reported' 'svstat: write fault: No space left on device' "$(cat reported)"
 

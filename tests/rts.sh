@@ -19,7 +19,7 @@ if [ "$(dpkg-query -W -f '${Version}' daemontools 2>/dev/null | grep -o '0\.76')
 
 # run BIN COMMAND WORDS..: leaves its status and what it prints
 run() {
-  timeout 10 "$1/$2" "${@:3}" >printed 2>/dev/null <"${input:-/dev/null}"
+  timeout 60 "$1/$2" "${@:3}" >printed 2>/dev/null <"${input:-/dev/null}"
   status=$?
 }
 
@@ -174,15 +174,15 @@ END
   disown
   cd "$folder" || exit 1
   # told COUNT: waits until the service has told so much
-  told() { for _ in $(seq 100); do [ "$(wc -l 2>/dev/null <up/told)" -ge "$1" ] && return; sleep 0.1; done; }
-  # shows PATTERN: waits until svstat shows that
-  shows() { for _ in $(seq 100); do "$bin/svstat" "$1" | grep -q "$2" && break; sleep 0.1; done; sleep 0.2; "$bin/svstat" "$1" | numbers; }
-  for _ in $(seq 100); do "$bin/svok" up && "$bin/svok" pair/log && break; sleep 0.1; done
+  told() { for _ in $(seq 600); do [ "$(wc -l 2>/dev/null <up/told)" -ge "$1" ] && return; sleep 0.1; done; }
+  # shows SERVICE PATTERN: waits until svstat shows that at the end of its line
+  shows() { for _ in $(seq 600); do "$bin/svstat" "$1" | grep -q -e "$2\$" && break; sleep 0.1; done; sleep 0.2; "$bin/svstat" "$1" | numbers; }
+  for _ in $(seq 600); do "$bin/svok" up && "$bin/svok" pair/log && break; sleep 0.1; done
   told 1
   sleep 1.2
   echo "svok $("$bin/svok" up; echo $?)"
-  shows up ': up'
-  shows kept ': down'
+  shows up ': up .* seconds'
+  shows kept ': down .* seconds'
   "$bin/svc" -h up; told 2
   "$bin/svc" -a up; told 3
   "$bin/svc" -i up; told 4
@@ -192,24 +192,24 @@ END
   "$bin/svc" -t up; told 7
   sleep 1.2
   echo "after -t $(xargs <up/told)"
-  shows up ': up'
+  shows up ': up .* seconds'
   "$bin/svc" -d up
-  shows up ': down'
-  "$bin/svc" -o up; told 10
+  shows up ': down .* seconds, normally up'
+  "$bin/svc" -o up; told 9
   sleep 1.2
   "$bin/svc" -t up
-  shows up ': down'
+  shows up ': down .* seconds, normally up'
   "$bin/svc" -u up kept
-  shows kept ': up'
+  shows kept ': up .* seconds, normally down'
   sleep 1.2
   "$bin/svc" -k kept
   sleep 1.5
-  shows kept ': up'
+  shows kept ': up .* seconds, normally down'
   echo "pair $(head -n 1 pair/log/main/current)"
   # The names go first, or they would be started again.
   for service in up kept pair; do mv "$service" ".$service"; done
   "$bin/svc" -dx .up .kept .pair .pair/log
-  for _ in $(seq 100); do "$bin/svok" .up || "$bin/svok" .kept || "$bin/svok" .pair || break; sleep 0.1; done
+  for _ in $(seq 600); do "$bin/svok" .up || "$bin/svok" .kept || "$bin/svok" .pair || break; sleep 0.1; done
   echo "svok $("$bin/svok" .up; echo $?)"
   "$bin/svstat" .up
   kill_group "$(cat "../$(basename "$folder").svscan")"

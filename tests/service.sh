@@ -21,11 +21,11 @@ ended() {
   is "$name: reported" "$reported" "$(cat reported)"
 }
 
-# soon NAME COMMAND..: the command succeeds within half a minute
+# soon NAME COMMAND..: the command succeeds within two minutes
 soon() {
   local name=$1 seen=
   shift
-  for _ in $(seq 300); do "$@" >/dev/null 2>&1 && { seen=yes; break; }; sleep 0.1; done
+  for _ in $(seq 1200); do "$@" >/dev/null 2>&1 && { seen=yes; break; }; sleep 0.1; done
   is "$name" yes "$seen"
 }
 is_up() { "$program" svstat "$1" | grep -q ': up (pid .*seconds$'; }
@@ -61,7 +61,7 @@ ended 'added again' 111 'dtools-service: a b: it is there already' --add 'own/a 
 ended 'it is there' 0 '' --list 'a b'
 ended 'the list' 0 '' --list
 is 'the list' "a b $room/own/a b" "$(cat out)"
-is 'svwait waits until it is supervised, and up' 0 "$("$program" wait -t 60 'services/a b'; echo $?)"
+is 'svwait waits until it is supervised, and up' 0 "$("$program" wait -t 240 'services/a b'; echo $?)"
 soon 'it is up' is_up 'services/a b'
 soon 'its logger is up' is_up 'services/a b/log'
 ended 'removed' 0 '' --remove 'a b'

@@ -101,7 +101,7 @@ done
 
 
 def until(seconds, is_so):
-    end = time.monotonic() + 3 * seconds
+    end = time.monotonic() + 6 * seconds
     while not is_so():
         if time.monotonic() > end:
             return False

@@ -22,9 +22,9 @@ trap leave EXIT
 trap 'exit 1' INT TERM HUP
 
 # until_true SECONDS COMMAND..: tries the command each 50 ms, until it succeeds. The seconds are those of an idle machine: a
-# busy one has three times as many, and at least as many tries.
+# busy one has six times as many, and at least as many tries.
 until_true() {
-  local end=$((${EPOCHREALTIME/[.,]/} + $1 * 3000000)) looks=$(($1 * 20))
+  local end=$((${EPOCHREALTIME/[.,]/} + $1 * 6000000)) looks=$(($1 * 20))
   shift
   until "$@"; do
     ((looks -= 1)) || true
@@ -110,15 +110,21 @@ millis() { echo $((${EPOCHREALTIME/[.,]/} / 1000)); }
 # the processor time that a process has used, in hundredths of a second
 used() { awk '{ sub(/.*\) /, ""); print $12 + $13 }' "/proc/$1/stat"; }
 
-# ends_by NAME LETTERS FOLDER: after these letters the supervise that was started last ends with 0, in less than a second
+# ends_by NAME LETTERS FOLDER [SECONDS]: after these letters the supervise that was started last ends with 0, in less than a second or
+# than so many. The time for which the machine stood still meanwhile does not count.
 ends_by() {
-  local begun status
+  local begun status took still seconds=${4:-1}
+  stood_still stood &
+  still=$!
   begun=$(millis)
   svc "$2" "$3"
   wait "$started"
   status=$?
+  took=$(($(millis) - begun))
+  kill -TERM "$still"
+  wait "$still"
   is "$1: status" 0 "$status"
-  is "$1: in less than a second, $(($(millis) - begun)) ms" yes "$([ $(($(millis) - begun)) -lt 1000 ] && echo yes)"
+  is "$1: in less than $seconds s, $took ms" yes "$([ $((took - $(tail -n 1 stood 2>/dev/null || echo 0))) -lt $((seconds * 1000)) ] && echo yes)"
 }
 
 # One service through its life.
@@ -258,7 +264,8 @@ killed() {
   soon 'supervise takes it from svscan' 5 is_served d/web
   is 'from svscan: the same process' "$first" "$(process d/web)"
   is 'it started once' 1 "$(wc -l <d/web/starts)"
-  ends_by 'dx' -dx d/web
+  # The process is no child of it: that is looked at once a second, and every two seconds if nobody waits for a dead one.
+  ends_by 'dx' -dx d/web 3
   soon 'dx: the process is gone' 2 not lives "$first"
   is 'nothing is said' '' "$(cat reported reported2)"
 }
@@ -268,6 +275,7 @@ idle() {
   sleeper d/web
   start supervise reported d/web
   soon 'up' 5 is_settled d/web
+  soon 'its trace is kept' 8 test -s d/web/supervise/trace
   sleep 6
   local before now
   before=$(used "$started")

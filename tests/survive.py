@@ -59,8 +59,8 @@ def reap():
 
 
 def until(seconds, is_so):
-    """Whether it is so within these seconds, three times as many on a busy machine."""
-    end = time.monotonic() + 3 * seconds
+    """Whether it is so within these seconds, six times as many on a busy machine."""
+    end = time.monotonic() + 6 * seconds
     while not is_so():
         reap()
         if time.monotonic() > end:
@@ -84,6 +84,14 @@ def stands(names):
             line.pop(member, None)
         found[name] = line, read(f"d/{name}/supervise/status")[:12]
     return found
+
+
+def is_steady():
+    """Whether the services that are put down are down, and the others up, for half a second."""
+    first = stands(steady)
+    time.sleep(0.5)
+    phases = {name: found[0].get("phase") for name, found in first.items()}
+    return first == stands(steady) and phases == {name: "down" if name in put else "up" for name in steady}
 
 
 svscan = None
@@ -143,7 +151,7 @@ svc("-p", paused)
 svc("-d", put)
 svc("-o", once)
 check("put down", True, until(10, lambda: not any(living(name) for name in put)))
-time.sleep(0.5)
+check("each service is as it was asked to be", True, until(20, is_steady))
 before = stands(steady)
 wrong = []
 for number in range(kills):

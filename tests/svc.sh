@@ -11,7 +11,7 @@ trap leave EXIT
 ended() {
   local name=$1 status=$2 printed=$3 reported=$4
   shift 4
-  timeout 5 "$program" "$@" >out 2>reported </dev/null
+  timeout 60 "$program" "$@" >out 2>reported </dev/null
   is "$name: status" "$status" "$?"
   is "$name: printed" "$printed" "$(cat out)"
   is "$name: reported" "$reported" "$(cat reported)"
@@ -33,7 +33,7 @@ open("supervise/listens", "w").close()
 while True:
     for key, _ in choice.select():
         stream, _ = key.fileobj.accept()
-        stream.settimeout(5)
+        stream.settimeout(60)
         bytes = b""
         while piece := stream.recv(4096):
             bytes += piece
@@ -46,7 +46,7 @@ listen() {
   mkdir -p "$folder/supervise"
   python3 listener.py heard "$@" &
   listeners+=($!)
-  for _ in $(seq 100); do [ -e "$folder/supervise/listens" ] && return; sleep 0.02; done
+  for _ in $(seq 1500); do [ -e "$folder/supervise/listens" ] && return; sleep 0.02; done
   echo "svc: nobody listens in $folder"
   exit 1
 }
@@ -56,7 +56,7 @@ listen() {
 arrived() {
   local name=$1
   shift
-  for _ in $(seq 100); do [ "$(wc -l <heard)" -ge $# ] && break; sleep 0.02; done
+  for _ in $(seq 1500); do [ "$(wc -l <heard)" -ge $# ] && break; sleep 0.02; done
   is "$name" "$(printf '%s\n' "$@" | sort)" "$(sort heard)"
   : >heard
 }
@@ -178,10 +178,10 @@ for name in ("control", "ok"):
     first.connect("full/supervise/" + name)
     held += [door, first]
 open("full/supervise/listens", "w").close()
-time.sleep(60)
+time.sleep(600)
 END
 listeners+=($!)
-for _ in $(seq 100); do [ -e full/supervise/listens ] && break; sleep 0.02; done
+for _ in $(seq 1500); do [ -e full/supervise/listens ] && break; sleep 0.02; done
 ended 'a full queue' 0 '' "$warning full: no answer" svc -t full
 ended 'a full queue: -W' 111 '' "$warning full: no answer" svc -W -t full
 ended 'a full queue: svstat' 0 'full: unable to open supervise/ok: no answer' '' svstat full
@@ -230,7 +230,7 @@ stat() {
   bytes "$hex" >s/supervise/status
   local before after
   before=$(date +%s)
-  timeout 5 "$program" svstat s >out 2>reported </dev/null
+  timeout 60 "$program" svstat s >out 2>reported </dev/null
   is "$name: status" 0 "$?"
   after=$(date +%s)
   is "$name: reported" '' "$(cat reported)"
@@ -305,7 +305,7 @@ ended 'a word with a dash' 0 '-x: unable to read status' '' svstat -x
 ended 'a name that is no text' 0 'bad\xff\x00: supervise not running
 s: unable to read status' 'svstat: bad\xff: Invalid argument' svstat $'bad\xff' s 2>/dev/null
 ended 'svstat without words' 0 '' '' svstat
-timeout 5 "$program" svstat nosuch >/dev/full 2>reported </dev/null
+timeout 60 "$program" svstat nosuch >/dev/full 2>reported </dev/null
 is 'a full device: status' 111 "$?"
 is 'a full device: reported' 'svstat: write fault: No space left on device' "$(cat reported)"
 

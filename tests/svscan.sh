@@ -29,9 +29,9 @@ trap leave EXIT
 trap 'exit 1' INT TERM HUP
 
 # until_true SECONDS COMMAND..: tries the command each 50 ms, until it succeeds. The seconds are those of an idle machine: a
-# busy one has three times as many, and at least as many tries.
+# busy one has six times as many, and at least as many tries.
 until_true() {
-  local end=$((${EPOCHREALTIME/[.,]/} + $1 * 3000000)) looks=$(($1 * 20))
+  local end=$((${EPOCHREALTIME/[.,]/} + $1 * 6000000)) looks=$(($1 * 20))
   shift
   until "$@"; do
     ((looks -= 1)) || true
@@ -126,7 +126,7 @@ END
 }
 
 # What the commands of dtools say of a service, and what its status record holds.
-svc() { timeout 10 "$program" svc "$@"; }
+svc() { timeout 60 "$program" svc "$@"; }
 is_served() { timeout 10 "$program" svok "$1"; }
 stat_line() { timeout 10 "$program" svstat "$1" | sed -E 's/ [0-9]+ seconds/ N seconds/'; }
 process() { od -An -tu4 -j12 -N4 --endian=little "$1/supervise/status" 2>/dev/null | tr -d ' '; }
@@ -148,6 +148,13 @@ count() { local lines=0; [ -e "$1" ] && lines=$(wc -l <"$1"); echo "$lines"; }
 has_lines() { [ "$(count "$2")" -ge "$1" ]; }
 state() { sed 's/.*) //; s/ .*//' "/proc/$1/stat" 2>/dev/null; }
 descriptors() { find "/proc/$1/fd" -type l | wc -l; }
+# the tick at which a process began, a hundredth of a second, and how many there were from that one to the start of another
+began() { sed 's/.*) //' "/proc/$1/stat" | cut -d ' ' -f 20; }
+apart_ticks() { echo $(($(began "$2") - $1)); }
+# the microseconds of the clock, now and when a file was changed last
+micros() { echo "${EPOCHREALTIME/[.,]/}"; }
+changed() { local at; at=$(stat -c %.6Y "$1"); echo "${at/[.,]/}"; }
+no_sockets() { [ "$(sockets "$1")" = 0 ]; }
 lives() { [[ $(state "$1") =~ [RSDTt] ]]; }
 live() { lives "$1" && lives "$2"; }
 # Whether nothing is left of a process that this shell started: its first thread ends before what it held is given back.
@@ -304,13 +311,16 @@ END
   start reported d
   soon 'it starts' 5 test -s d/web/starts
   soon 'it settles' 5 ends ', settling' d/web
-  local before after
+  local before after begin
   before=$(count d/web/starts)
   local descriptors
   descriptors=$(descriptors "$svscan")
+  begin=$(micros)
   sleep 5
+  soon 'it starts again and again' 5 has_lines $((before + 3)) d/web/starts
   after=$(count d/web/starts)
-  lies 'starts in 5 s' 3 7 $((after - before))
+  # One each second at most, and the seconds that have gone by are at least five.
+  lies 'starts in 5 s' 3 $((2 + ($(micros) - begin) / 1000000)) $((after - before))
   svc -d d/web
   soon 'd' 3 is_put_down d/web
   lies 'no descriptor is left open' 0 $((descriptors + 2)) "$(descriptors "$svscan")"
@@ -320,12 +330,14 @@ END
   svc -o d/web
   soon 'o' 3 has_lines $((before + 1)) d/web/starts
   sleep 2.5
+  soon 'o: it is down' 5 has_run_once d/web
   is 'o: once' "$((before + 1)) down" "$(count d/web/starts) $(is_down d/web && echo down)"
   before=$(count d/web/starts)
   svc -u d/web
   soon 'u' 6 has_lines $((before + 3)) d/web/starts
   svc -o d/web
   soon 'o while it is up' 3 wants o d/web
+  soon 'o while it is up: it ends' 5 has_run_once d/web
   sleep 1.5
   before=$(count d/web/starts)
   sleep 2
@@ -419,8 +431,8 @@ echo "end in $(pwd -P)" >>order
 END
   sleeper d/web
   finish d/web <<'END'
-echo $$ >>finishes
 echo "$*" >>words
+echo $$ >>finishes
 while [ ! -e go ]; do sleep 0.05; done
 END
   echo 0 >d/web/timeout-finish
@@ -500,6 +512,7 @@ bounded_finish() {
   for name in short bad; do
     sleeper d/$name
     finish d/$name <<'END'
+sed 's/.*) //' /proc/$$/stat | cut -d ' ' -f 20 >tick
 echo $$ >>finishes
 exec sleep 1000
 END
@@ -510,13 +523,13 @@ END
   soon 'up' 10 all_are is_settled d/short d/bad
   svc -k d/short d/bad
   soon 'both finish' 5 all_are is_finishing d/short d/bad
-  sleep 0.6
-  so 'it has its time' is_finishing d/short
   soon 'it starts again after its time' 9 has_lines 2 d/short/starts
   is 'and is gone' '' "$(finishing d/short)"
+  # What svscan reads of the clock and what the kernel notes of a process may differ by a few ticks.
+  lies 'it has its time: ticks' 290 100000 "$(apart_ticks "$(cat d/short/tick)" "$(tail -n 1 d/short/starts)")"
   is 'a time that is no number' 'svscan: bad: timeout-finish is no number of seconds: 5 seconds count' "$(cat reported)"
-  so 'does not count' is_finishing d/bad
   soon '5 seconds do' 10 has_lines 2 d/bad/starts
+  lies 'it does not count: ticks' 490 100000 "$(apart_ticks "$(cat d/bad/tick)" "$(tail -n 1 d/bad/starts)")"
   is 'it is gone, too' '' "$(finishing d/bad)"
   is 'once each' '1 1' "$(count d/short/finishes) $(count d/bad/finishes)"
 }
@@ -536,10 +549,10 @@ kills() { timeout 10 "$program" trace "$1/supervise/trace" 2>/dev/null | grep -c
 timed_kill() {
   local name first
   for name in timed free bad never back; do deaf d/$name; done
-  echo 1 >d/timed/timeout-kill
+  echo 4 >d/timed/timeout-kill
   echo soon >d/bad/timeout-kill
   echo 0 >d/never/timeout-kill
-  echo 2 >d/back/timeout-kill
+  echo 8 >d/back/timeout-kill
   start reported d
   soon 'up' 10 all_are is_settled d/timed d/free d/bad d/never d/back
   first=$(process d/timed)
@@ -548,8 +561,8 @@ timed_kill() {
   so 'it has its time' lives "$first"
   svc -d d/timed
   svc -u d/back
-  soon 'k ends it' 3 is_put_down d/timed
-  sleep 2
+  soon 'k ends it' 8 is_put_down d/timed
+  sleep 6
   for name in free bad never back; do so "$name runs" is_up d/$name; done
   is 'a text that is no number' 'svscan: bad: timeout-kill is no number of seconds: it does not count' "$(cat reported)"
   svc -k d/free d/bad d/never
@@ -571,7 +584,7 @@ timed_kill_left() {
   local first
   deaf d/web
   deaf d/other
-  echo 2 >d/web/timeout-kill
+  echo 6 >d/web/timeout-kill
   start_session reported d
   soon 'up' 10 all_are is_settled d/web d/other
   first=$(process d/web)
@@ -579,14 +592,14 @@ timed_kill_left() {
   soon 'it is asked to go' 3 wants d d/web
   kill -KILL "$svscan"
   soon 'svscan is dead' 3 is_gone "$svscan"
-  sleep 2.5
+  sleep 6.5
   so 'it runs without svscan' lives "$first"
   start_session reported2 d
   soon 'served' 10 all_are is_served d/web d/other
   is 'it is the same process' "$first" "$(process d/web)"
   sleep 1
   so 'it has its time again' lives "$first"
-  soon 'k ends it' 4 is_put_down d/web
+  soon 'k ends it' 10 is_put_down d/web
   so 'the other one runs' is_settled d/other
   is 'one start' 1 "$(count d/web/starts)"
   is 'nothing was reported' '' "$(cat reported reported2)"
@@ -605,6 +618,7 @@ ready() {
   echo 12 >d/bad/notification-fd
   start reported d
   soon 'up' 10 all_are is_settled d/web d/own d/free d/bad
+  soon 'they hear' 10 all_are listens d/web d/own d/bad
   first=$(process d/web)
   is 'it is not ready before it says so' 'd/web: up (pid N) N seconds' "$(plain_line d/web)"
   is 'wait -U takes its time' 99 "$(timeout 10 "$program" wait -U -t 1 d/web 2>late; echo $?)"
@@ -685,6 +699,7 @@ ready_left() {
   done
   start_session reported d
   soon 'up' 10 all_are is_settled d/before d/between d/after
+  soon 'they hear' 10 all_are listens d/before d/between d/after
   echo >d/before/say
   soon 'one is ready' 3 test -e d/before/supervise/ready
   cp d/before/supervise/ready said
@@ -740,8 +755,14 @@ END
 # After five ends within a minute that nobody asked for, the next start waits.
 backs_off() {
   local before
-  for name in web free bad; do falls d/$name; done
-  echo 20 >d/web/backoff
+  for name in free bad; do falls d/$name; done
+  # Its sixth process ends when it is told to.
+  service d/web <<'END'
+echo $$ >>starts
+[ "$(wc -l <starts)" != 6 ] || until [ -e go ]; do sleep 0.05; done
+exit 1
+END
+  echo 600 >d/web/backoff
   echo 3601 >d/bad/backoff
   start reported d
   soon 'five ends' 12 test -s d/web/supervise/backoff
@@ -756,12 +777,13 @@ backs_off() {
   svc -t d/web
   sleep 1
   is 'a signal does not end that' 5 "$(count d/web/starts)"
-  so 'without the file it goes on' has_lines 7 d/free/starts
-  so 'with a bad one too' has_lines 7 d/bad/starts
+  soon 'without the file it goes on' 5 has_lines 7 d/free/starts
+  soon 'with a bad one too' 5 has_lines 7 d/bad/starts
   is 'which is told' 'svscan: bad: backoff is no number of seconds from 1 to 3600: it does not count' "$(sort -u reported)"
   svc -u d/web
   soon 'u ends it' 4 has_lines 6 d/web/starts
   is 'the file is gone' no "$(exists d/web/supervise/backoff)"
+  touch d/web/go
   soon 'the sixth end is one too many again' 5 test -s d/web/supervise/backoff
   svc -d d/web
   soon 'd ends it, and starts nothing' 4 is_put_down d/web
@@ -769,7 +791,7 @@ backs_off() {
   is 'six starts' 6 "$(count d/web/starts)"
   # An end that somebody asked for counts neither as one of the five nor for the wait.
   sleeper d/asked
-  echo 20 >d/asked/backoff
+  echo 600 >d/asked/backoff
   soon 'asked: up' 10 is_settled d/asked
   for _ in 1 2 3 4 5 6; do
     before=$(process d/asked)
@@ -792,13 +814,14 @@ holds_line() { [ "$(plain_line "$2")" = "$1" ]; }
 backs_off_left() {
   falls d/web
   falls d/other
-  echo 3 >d/web/backoff
-  echo 60 >d/other/backoff
+  echo 6 >d/web/backoff
+  echo 600 >d/other/backoff
   start_session reported d
   soon 'both wait' 12 both_wait
-  local from=$EPOCHSECONDS
-  soon 'the first goes on' 8 has_lines 6 d/web/starts
-  lies 'after its time' 1 6 $((EPOCHSECONDS - from))
+  local from
+  from=$(changed d/web/supervise/backoff)
+  soon 'the first goes on' 12 has_lines 6 d/web/starts
+  lies 'after its time: tenths of a second' 50 300 $((($(changed d/web/starts) - from) / 100000))
   kill -KILL "$svscan"
   soon 'svscan is dead' 3 is_gone "$svscan"
   is 'the other one waited' 5 "$(count d/other/starts)"
@@ -822,7 +845,7 @@ while [ ! -e go ]; do sleep 0.05; done
 END
   done
   echo 0 >d/web/timeout-finish
-  echo 4 >d/late/timeout-finish
+  echo 9 >d/late/timeout-finish
   start_session reported d
   soon 'up' 10 all_are is_settled d/web d/late
   first=$(process d/web)
@@ -834,7 +857,7 @@ END
   start_session reported2 d
   soon 'it is reported' 10 holds "^svscan: web: process $(finishing d/web) still runs\$" reported2
   so 'nothing is up' all_are is_down d/web d/late
-  soon 'one whose time is over is ended' 10 has_lines 2 d/late/starts
+  soon 'one whose time is over is ended' 15 has_lines 2 d/late/starts
   is 'by KILL' '' "$(finishing d/late)"
   is 'nothing begins next to the other' 1 "$(count d/web/starts)"
   so 'how the process ended is kept' exit_says "$first signal KILL" d/web
@@ -900,13 +923,14 @@ links() {
   soon 'dx: the process ends' 3 not lives "$first"
   soon 'dx: svok' 3 not is_served real
   is 'dx: svok' 100 "$(is_served real; echo $?)"
-  soon 'dx: no sockets' 3 test "$(sockets real)" = 0
+  soon 'dx: no sockets' 3 no_sockets real
   is 'dx: sockets' 0 "$(sockets real)"
   is 'dx: svc warns' 'svc: warning: unable to control real: not running' "$(svc -u real 2>&1)"
   is 'dx: svstat' 'real: supervise not running' "$(stat_line real)"
   svc -dx pair pair/log
   soon 'pair: no longer served' 3 not is_served pair
   soon 'pair: the logger is no longer served' 3 not is_served pair/log
+  soon 'pair: no sockets' 3 no_sockets pair
   is 'pair: sockets' 0 "$(sockets pair)"
   sleep 6
   is 'neither starts again' '1 1 1' "$(count real/starts) $(count pair/starts) $(count pair/log/starts)"
@@ -1323,6 +1347,7 @@ earlier_record() {
   mkdir d/web/supervise
   (cd d/web && exec sleep 1000) &
   local old=$!
+  soon 'an earlier process is there' 5 test "/proc/$old/cwd" -ef d/web
   record_earlier d/web "$old"
   is 'it has 18 bytes' 18 "$(stat -c %s d/web/supervise/status)"
   start reported d
@@ -1439,14 +1464,18 @@ END
   is 'moved away: it does not start again' 1 "$(count elsewhere/second/starts)"
   # Names that are no text are reported, once a round, and the others are services as ever.
   first=$(process d/renamed)
+  local begin
+  begin=$(micros)
   : >"d/$(printf '\377')"
   mkdir "d/$(printf 'web\300')"
   sleeper d/third
   soon 'names that are no text' 8 holds '^svscan: 2 names are not text$' reported
   soon 'names that are no text: another one starts' 8 is_up d/third
   is 'names that are no text: it goes on' "$first" "$(process d/renamed)"
-  sleep 6
-  lies 'names that are no text: once a round' 2 4 "$(grep -c 'names are not text$' reported)"
+  soon 'names that are no text: in the next round too' 8 are_not_text 2
+  sleep 4
+  # One more if a round began between the two names.
+  lies 'names that are no text: once a round' 2 $((2 + ($(micros) - begin) / 5000000 + 1)) "$(grep -c 'names are not text$' reported)"
   rm -r d/*$'\377'* d/*$'\300'*
   sleep 6
   local reported
@@ -1455,6 +1484,9 @@ END
   is 'names that are no text: gone' "$reported" "$(count reported)"
   is 'nothing else was reported' '' "$(grep -v -e '^svscan: renamed: unable to lock$' -e '^svscan: [12] names are not text$' reported)"
 }
+
+# are_not_text NUMBER: that is reported so often
+are_not_text() { [ "$(grep -c 'names are not text$' reported)" -ge "$1" ]; }
 
 # Two svscans over the same services, and two links to one service.
 twice() {
@@ -1470,7 +1502,9 @@ twice() {
   soon 'two links: the other name is reported' 5 holds '^svscan: two: unable to lock$' reported
   is 'two links: one service' 1 "$(count real/starts)"
   rm d/two
-  sleep 6
+  # A round later it is not seen any more.
+  sleeper d/later
+  soon 'two links: a round later' 8 is_settled d/later
   local before reported
   before="$(process real) $(process d/pair) $(process d/pair/log)"
   reported=$(count reported)
@@ -1546,7 +1580,7 @@ for _ in range(200):
         break
     held.append(stream)
 open(sys.argv[2], "w").write(f"{len(held)}\n")
-time.sleep(60)
+time.sleep(600)
 END
 
 silent() {
@@ -1625,13 +1659,13 @@ END
   python3 ../say.py $control h wait:1 a
   soon 'in two pieces' 3 has_lines 4 d/web/signals
   rm connected
-  python3 ../say.py $control wait:20 &
-  local waits=$!
+  python3 ../say.py $control wait:600 &
+  local waits=$! begin
   soon 'a silent one: connected' 10 test -e connected
+  begin=$(changed connected)
   svc -d d/web
-  sleep 2
-  is 'a silent one: the next waits' up "$(is_up d/web && echo up)"
-  soon 'a silent one is dropped after 5 s' 5 is_put_down d/web
+  soon 'a silent one is dropped after 5 s' 8 is_put_down d/web
+  lies 'a silent one: the next waits: tenths of a second' 30 480 $((($(changed d/web/supervise/status) - begin) / 100000))
   kill "$waits" 2>/dev/null
   wait "$waits" 2>/dev/null
   # ok takes no letters.
@@ -1639,13 +1673,13 @@ END
   sleep 1
   is 'ok takes no letters' down "$(is_put_down d/web && echo down)"
   # More of them, one after the other, than a queue of connections holds: each is taken.
-  is 'ok takes 6,000 connections' 6000 "$(timeout 60 python3 -c '
+  is 'ok takes 6,000 connections' 6000 "$(timeout 300 python3 -c '
 import socket, sys, time
 taken = 0
 for number in range(6000):
     client = socket.socket(socket.AF_UNIX)
     client.setblocking(False)
-    for _ in range(200):
+    for _ in range(2000):
         try:
             client.connect(sys.argv[1])
             taken += 1
@@ -1678,9 +1712,12 @@ no_supervise() {
     echo "$PWD/d/readonly" >>"$room/$scenario.mounts"
     mount -o remount,bind,ro d/readonly 2>/dev/null && mounted=yes
   fi
+  local begin
+  begin=$(micros)
   start reported d
   soon 'another one is up' 5 is_settled d/other
-  sleep 6
+  soon 'reported in the next round too' 8 are_reported 2 '^svscan: file: '
+  sleep 2
   so 'a file in its place: it does not start' test ! -e d/file/starts
   is 'a file in its place: not served' 100 "$(is_served d/file; echo $?)"
   [ $mounted = yes ] && so 'read-only: it does not start' test ! -e d/readonly/supervise
@@ -1688,7 +1725,7 @@ no_supervise() {
   is 'they are reported with the cause, and no other' "svscan: file: unable to supervise: Not a directory
 svscan: lost: unable to supervise: No such file or directory$([ $mounted = yes ] && echo "
 svscan: readonly: unable to supervise: Read-only file system")" "$(sort -u reported)"
-  lies 'once a round' 2 3 "$(grep -c '^svscan: file: ' reported)"
+  lies 'once a round' 2 $((1 + ($(micros) - begin) / 5000000)) "$(grep -c '^svscan: file: ' reported)"
   so 'a link to nothing: what it names is made' test -f kept/away/lock
   is 'a link to nothing: its own, both ways' '700 700' "$(stat -c %a kept/link kept/away | paste -sd ' ')"
   is 'a link to nothing: up' '0 0' "$(for each in link away; do is_served d/$each; echo $?; done | paste -sd ' ')"
@@ -1716,19 +1753,25 @@ svscan: web: unable to supervise: Permission denied' "$(cat denied)"
   fi
 }
 
+# are_reported NUMBER PATTERN: so many lines at least are reported that have this
+are_reported() { [ "$(grep -c -e "$2" reported)" -ge "$1" ]; }
+
 # A service whose sockets can't be made runs, and is heard once they can be.
 unheard() {
   sleeper d/web
   sleeper d/other
   mkdir -p d/web/supervise/ok/in_its_place
+  local begin
+  begin=$(micros)
   start reported d
   soon 'another one is served' 5 is_served d/other
   soon 'it runs' 5 is_up d/web
-  sleep 6
+  soon 'reported in the next round too' 8 has_lines 2 reported
+  sleep 1
   is 'it is not served' 100 "$(is_served d/web; echo $?)"
   so 'nor has it the other socket' test ! -e d/web/supervise/control
   is 'it is reported, and no other' 1 "$(sort -u reported | grep -c '^svscan: web: unable to supervise: ..*')"
-  lies 'once a round' 2 3 "$(count reported)"
+  lies 'once a round' 2 $((1 + ($(micros) - begin) / 5000000)) "$(count reported)"
   local process reported
   process=$(process d/web)
   rm -r d/web/supervise/ok
@@ -1762,10 +1805,10 @@ END
   : >d/down/down
   local begin
   begin=${EPOCHREALTIME/[.,]/}
-  timeout -k 1 40 "$program" svscan d 2 >out 2>reported </dev/null
+  timeout -k 1 120 "$program" svscan d 2 >out 2>reported </dev/null
   is 'two rounds: status' 0 "$?"
   local took=$(((${EPOCHREALTIME/[.,]/} - begin) / 1000000))
-  lies 'two rounds: seconds' 5 12 $took
+  lies 'two rounds: seconds' 5 40 $took
   is 'two rounds: printed' '' "$(cat out)"
   is 'two rounds: TERM' TERM "$(cat d/web.2/signals)"
   local folder pid left=
@@ -1849,7 +1892,8 @@ given_back() {
   soon 'the first one is up' 10 is_settled d/stays
   local before name
   sleep 1
-  before="$(threads "$svscan") $(descriptors "$svscan")"
+  # What a round opens for a moment does not count.
+  until before=$(numbers "$svscan"); sleep 0.3; has "$before" numbers "$svscan" && sleep 0.3 && has "$before" numbers "$svscan"; do :; done
   mkdir real
   for name in $(seq 10 49); do sleeper real/$name; done
   for name in $(seq 50 79); do
@@ -1902,7 +1946,7 @@ untaken() {
 }
 
 # svscan is served itself: its own status, a round on demand, bytes that ask for nothing.
-own() {
+itself() {
   sleeper d/web
   # It is reported each round.
   sleeper d/file
@@ -1913,23 +1957,30 @@ own() {
   is 'svstat' "d/.svscan: up (pid $svscan) N seconds" "$(stat_line d/.svscan)"
   is 'modes' '700 600 600 600 600' "$(cd d/.svscan/supervise && stat -c %a . control ok status lock | paste -sd ' ')"
   soon 'a second round' 8 has_lines 2 reported
-  local begin=$EPOCHREALTIME
+  local begin
+  begin=$(changed reported)
   python3 ../say.py d/.svscan/supervise/control 'udopchit12k' wait:1 'z*500' wait:1 'b*4096'
   # On a busy computer five seconds may have gone by, and with them a round.
   local rounds
   rounds=$(count reported)
-  lies 'bytes that ask for nothing: rounds' 2 $((2 + (${EPOCHREALTIME/[.,]/} - ${begin/[.,]/}) / 5000000)) "$rounds"
+  lies 'bytes that ask for nothing: rounds' 2 $((2 + ($(micros) - begin) / 5000000)) "$rounds"
   so 'bytes that ask for nothing: it goes on' lives "$svscan"
   sleeper d/new
   svc -a d/.svscan
   soon 'a: a round' 1 has_lines $((rounds + 1)) reported
   soon 'a: what is new is served' 1 is_served d/new
-  rounds=$(count reported)
-  begin=$EPOCHREALTIME
-  python3 ../say.py d/.svscan/supervise/control aa
-  soon 'a: again' 1 has_lines $((rounds + 2)) reported
-  # Two rounds without being asked for take at least five seconds.
-  lies 'a: tenths of a second' 0 49 $(((${EPOCHREALTIME/[.,]/} - ${begin/[.,]/}) / 100000))
+  # Two rounds without being asked for take at least five seconds. A busy machine gets three tries.
+  local took=50
+  for _ in 1 2 3; do
+    [ "$took" -ge 50 ] || break
+    rounds=$(count reported)
+    begin=$(micros)
+    python3 ../say.py d/.svscan/supervise/control aa
+    until_true 2 has_lines $((rounds + 2)) reported
+    took=$((($(changed reported) - begin) / 100000))
+  done
+  so 'a: again' has_lines $((rounds + 2)) reported
+  lies 'a: tenths of a second' 0 49 "$took"
   local web
   web=$(process d/web)
   python3 ../say.py d/.svscan/supervise/control xq
@@ -1945,6 +1996,8 @@ own() {
   so 'q before x: the service runs on' lives "$web"
 }
 
+has_trace() { [ -s "$1/supervise/trace" ]; }
+
 # The names, times, sizes and modes of all that is in a folder.
 listing() { find "$1" -printf '%p %i %T@ %C@ %s %m %y\n' | sort; }
 
@@ -1955,6 +2008,7 @@ refused() {
   logger d/pair/log
   start reported d
   soon 'up' 5 all_are is_settled d/web d/pair d/pair/log
+  soon 'their traces are kept' 10 all_are has_trace d/web d/pair d/pair/log
   sleep 6
   listing d >before
   ended 'a second svscan' 111 'svscan: unable to lock d' d
@@ -2030,7 +2084,7 @@ END
   begin=$EPOCHREALTIME
   wait "$job"
   is 'x: status' 0 "$?"
-  lies 'x: tenths of a second' 50 90 $(((${EPOCHREALTIME/[.,]/} - ${begin/[.,]/}) / 100000))
+  lies 'x: tenths of a second' 50 400 $(((${EPOCHREALTIME/[.,]/} - ${begin/[.,]/}) / 100000))
   for name in web keeps; do
     is "x: $name" 'last words' "$(tail -n 1 d/$name/log/main/current)"
   done
@@ -2041,7 +2095,7 @@ END
   is 'x: what still ran is reported' 'never/log' "$(sed -n 's/^svscan: \(.*\): process [0-9]* still runs$/\1/p' reported | sort -u | paste -sd ' ')"
   is 'x: no socket is left' 0 "$(sockets d)"
   rm -r d/never d/slow d/keeps
-  timeout -k 1 40 "$program" svscan d 2 >out 2>reported2 </dev/null
+  timeout -k 1 120 "$program" svscan d 2 >out 2>reported2 </dev/null
   is 'two rounds: status' 0 "$?"
   is 'two rounds: last words' 2 "$(grep -c '^last words$' d/web/log/main/current)"
   is 'two rounds: reported' '' "$(cat reported2)"
@@ -2080,6 +2134,10 @@ END
   is 'nothing was reported' '' "$(cat reported)"
 }
 
+# a process that writes nothing for half a second
+wrote() { sed -n 's/^wchar: //p' "/proc/$(process "$1")/io"; }
+rests() { local before; before=$(wrote "$1"); [ -n "$before" ] && sleep 0.5 && [ "$(wrote "$1")" = "$before" ]; }
+
 # A logger that doesn't read as svscan leaves: what it can't have is reported, to the byte.
 unread() {
   local name
@@ -2106,6 +2164,7 @@ END
   soon 'both have processes' 5 all_are is_settled d/paused d/down
   # The outputs are full.
   sleep 2
+  soon 'they write no more' 10 all_are rests d/paused d/down
   so 'they wait' test ! -e d/paused/done -a ! -e d/down/done
   local cat
   cat=$(process d/paused/log)
@@ -2152,15 +2211,20 @@ END
   local begin=$EPOCHREALTIME
   wait "$wrapper"
   is 'status' 0 "$?"
-  lies 'tenths of a second' 0 60 $(((${EPOCHREALTIME/[.,]/} - ${begin/[.,]/}) / 100000))
+  lies 'tenths of a second' 0 400 $(((${EPOCHREALTIME/[.,]/} - ${begin/[.,]/}) / 100000))
   is 'last words' 'last words' "$(tail -n 1 d/web/log/main/current)"
   is 'no process is left' '' "$(for number in $processes; do lives "$number" && echo "$number"; done)"
   is 'no service is served' 100 "$(is_served d/web; echo $?)"
   is 'reported' '' "$(cat reported)"
   start reported2 d
   soon 'the next svscan begins each' 10 all_are is_settled d/web d/web/log 'd/two words'
-  is 'a bad folder: status' 111 "$(DTOOLS=$program "$scripts/svscan-run" none/at/all 2>none & sleep 1; kill -TERM $!; wait $!; echo $?)"
-  so 'a bad folder: reported' holds '^svscan: unable to read none/at/all: Not a directory$' none
+  DTOOLS=$program "$scripts/svscan-run" none/at/all 2>none &
+  local bad=$!
+  soon 'a bad folder: reported' 5 holds '^svscan: unable to read none/at/all: Not a directory$' none
+  sleep 1
+  kill -TERM "$bad" 2>/dev/null
+  wait "$bad"
+  is 'a bad folder: status' 111 "$?"
   is 'a folder that another svscan has' '111 svscan: unable to lock d' "$(DTOOLS=$program "$scripts/svscan-run" d 2>locked; echo "$? $(cat locked)")"
 }
 
@@ -2179,21 +2243,24 @@ END
   soon 'served' 10 is_served d/orphans
   sleep 1.5
   first=$(ps -o pid= --ppid "$outer" | tr -d ' ')
-  is 'no zombie' '' "$(ps -o stat= --ppid "$first" | grep Z)"
+  soon 'no zombie' 2 no_zombie "$first"
   kill -TERM "$first"
-  soon 'it ends' 1 not lives "$first"
+  soon 'it ends' 5 not lives "$first"
   wait "$outer"
   is 'status' 0 "$?"
   is 'reported' '' "$(cat reported)"
 }
 
-# Two services over three rounds, each asked by the programs in turn, until the trace says how one of them ended.
+# no child of a process has ended and is not waited for
+no_zombie() { ! ps -o stat= --ppid "$1" | grep -q Z; }
+
+# Two services over five rounds, each asked by the programs in turn, until the trace says how one of them ended.
 two_services() {
   sleeper S
   sleeper R
   mkdir d
   ln -s ../S ../R d
-  "$program" svscan d 3 >out 2>reported </dev/null &
+  "$program" svscan d 5 >out 2>reported </dev/null &
   local svscan=$!
   soon 'svok S' 10 is_served S
   soon 'svok R' 10 is_served R
@@ -2272,7 +2339,7 @@ shortage() {
   before=$(ticks "$svscan")
   sleep 5
   after=$(ticks "$svscan")
-  lies 'svscan does not spin: ticks in 5 s' 0 50 $((after - before))
+  lies 'svscan does not spin: ticks in 5 s' 0 100 $((after - before))
   so 'svscan lives on' lives "$svscan"
   so 'the service too' lives "$(process "${up[0]:-none}")"
 }
@@ -2321,7 +2388,7 @@ unchanged() {
   ln -s ../there d/link
   start reported d
   soon 'up' 5 is_settled d/web
-  sleep 8
+  sleep 12
   timeout 11 strace -f -qq -e trace=getdents64,getdents -o listed -p "$svscan"
   is 'it is not listed' 0 "$(grep -c getdents listed)"
   mv real there
@@ -2379,7 +2446,7 @@ many() {
   mkdir d
   (cd d && seq -f 's%04.0f' 1001 | xargs mkdir && seq -f 's%04.0f/down' 1001 | xargs touch)
   under=(bash -c 'ulimit -n $(ulimit -Hn); exec "$@"' bash)
-  "${under[@]}" timeout -k 1 90 "$program" svscan d 1 >out 2>reported </dev/null
+  "${under[@]}" timeout -k 1 300 "$program" svscan d 1 >out 2>reported </dev/null
   is 'status' 0 "$?"
   under=()
   is 'the last one is refused' 'svscan: s1001: TooMany' "$(cat reported)"
@@ -2540,13 +2607,27 @@ END
   sleeper d/web
   start_session reported1 d
   soon 'up' 8 all_are is_settled d/flow d/flow/log d/web
-  kill -KILL "$svscan"
-  soon 'svscan is dead' 3 is_gone "$svscan"
-  local lock before
-  for lock in d/.svscan d/flow d/web; do flock -n "$lock/supervise/lock" sleep 0.6 & done
-  sleep 0.1
-  start_session reported2 d
-  soon 'the next one serves all' 8 all_are is_served d/flow d/flow/log d/web
+  local lock before still
+  # svscan's patience lasts a second from its start. The locks are let go in the midst of it, and if the machine stands still
+  # meanwhile all is done anew.
+  for _ in 1 2 3 4 5 6; do
+    kill -KILL "$svscan"
+    soon 'svscan is dead' 3 is_gone "$svscan"
+    rm -f begin held.*
+    : >reported2
+    for lock in d/.svscan d/flow d/web; do
+      flock -w 5 "$lock/supervise/lock" sh -c ': >"$1"; while ! [ -e begin ]; do sleep 0.02; done; sleep 0.4' sh "held.${lock##*/}" &
+    done
+    soon 'they are held' 5 test -e held..svscan -a -e held.flow -a -e held.web
+    stood_still stood &
+    still=$!
+    : >begin
+    start_session reported2 d
+    soon 'the next one serves all' 15 all_are is_served d/flow d/flow/log d/web
+    kill -TERM "$still" 2>/dev/null
+    wait "$still"
+    [ "$(tail -n 1 stood 2>/dev/null || echo 0)" -ge 300 ] || break
+  done
   before=$(wc -c <d/flow/log/main/current)
   sleep 1
   lies 'the log has grown' 10 1000000 "$(($(wc -c <d/flow/log/main/current) - before))"
@@ -2559,12 +2640,13 @@ held_pair() {
   sleeper d/pair
   logger d/pair/log
   mkdir -p d/pair/supervise
-  flock d/pair/supervise/lock sleep 7 &
+  flock d/pair/supervise/lock sh -c ': >held; sleep 7; until [ -e let_go ]; do sleep 0.05; done' &
   local holder=$!
-  sleep 0.2
+  soon 'it is held' 5 test -e held
   start reported d
   soon 'it is said' 8 holds '^svscan: pair: unable to lock$' reported
   is 'nothing began' 0 "$(count d/pair/starts)"
+  : >let_go
   wait "$holder"
   soon 'then it begins' 12 is_settled d/pair
   is 'its output is the FIFO' "$(realpath d/pair/supervise/out)" "$(readlink "/proc/$(process d/pair)/fd/1")"
@@ -2622,7 +2704,7 @@ svscan = subprocess.Popen([sys.argv[1], "svscan", "d"], stdin=subprocess.DEVNULL
 open("second.new", "w").write(str(svscan.pid)); os.rename("second.new", "second")
 time.sleep(60)
 END
-  local reaper=$! web
+  local reaper=$! web begin took late=
   for number in 1 2 3 4 5; do soon "w$number is up" 8 is_settled "d/w$number"; done
   echo "$(cat first)" >>"$room/$scenario.groups"
   kill -KILL "$(cat first)"
@@ -2633,14 +2715,21 @@ END
   # At five moments of the five seconds between two rounds.
   for number in 1 2 3 4 5; do
     web=$(process "d/w$number")
+    begin=$(micros)
     kill -KILL "$web"
-    sleep 0.1
-    is "w$number is a zombie" Z "$(state "$web")"
-    sleep 2.9
-    is "w$number was started again" 2 "$(count "d/w$number/starts")"
+    soon "w$number is a zombie" 3 is_zombie "$web"
+    soon "w$number was started again" 5 has_lines 2 "d/w$number/starts"
+    is "w$number was started once" 2 "$(count "d/w$number/starts")"
+    took=$((($(changed "d/w$number/starts") - begin) / 100000))
+    [ "$took" -lt 38 ] || late="$late $took"
+    sleep "$(awk -v gone="$((($(micros) - begin) / 1000))" 'BEGIN { print gone < 3000 ? (3000 - gone) / 1000 : 0 }')"
   done
+  # Were it seen in a round alone, two of the five would come later. A busy machine may have stood still in one of them.
+  lies 'those that were late, in tenths of a second:'"$late" 0 1 "$(wc -w <<<"$late")"
   kill "$reaper"
 }
+
+is_zombie() { [ "$(state "$1")" = Z ]; }
 
 # The end has a bound: a logger that is down, and a service whose output is full and that ignores TERM. KILL ends it.
 bounded_end() {
@@ -2715,7 +2804,7 @@ apart() {
   for name in alone common; do soon "$name is up" 5 is_settled "d/$name"; done
   pid=$(process d/alone)
   is 'it leads a session' "$pid" "$(session_of "$pid")"
-  is 'it is run itself' sleep "$(cat "/proc/$pid/comm")"
+  soon 'it is run itself' 5 has sleep cat "/proc/$pid/comm"
   is 'another one is in the session of svscan' "$(session_of "$svscan")" "$(session_of "$(process d/common)")"
   soon 'reported of missing' 5 holds '^svscan: missing: unable to run ./run: No such file or directory$' reported
   soon 'reported of closed' 5 holds '^svscan: closed: unable to run ./run: Permission denied$' reported
@@ -2765,7 +2854,7 @@ play_all() {
     disown
   done
   set +m
-  until_true 120 has_counts "$@"
+  until_true 100 has_counts "$@"
   for each in "$@"; do
     if ! read -r ran wrong 2>/dev/null <"$room/$each.count"; then
       echo "FAILED $each: it did not end in time"
@@ -2778,7 +2867,7 @@ play_all() {
 }
 
 scenarios=(life modes_kept delegated exits endings finishes bounded_finish timed_kill timed_kill_left ready ready_left bridged backs_off backs_off_left killed_finish no_run links stubborn killed_service killed_svscan killed_early unnamed starved unwritten new_boot other_user earlier_record elsewhere changes twice names silent
-  connections no_supervise unheard rounds untaken own refused last_words upgraded unread ordered first_process two_services child begins_anew shortage
+  connections no_supervise unheard rounds untaken itself refused last_words upgraded unread ordered first_process two_services child begins_anew shortage
   descriptors_reported batches unchanged resting full_disk full_put_down placeless held_locks held_pair many_bytes raised_limit
   odd_environment unreaped bounded_end no_folder folder_away apart)
 # These keep every processor busy, and have the machine for themselves.

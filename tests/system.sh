@@ -11,7 +11,7 @@ trap 'rm -rf "$room"' EXIT
 ended() {
   local name=$1 status=$2 reported=$3
   shift 3
-  timeout 20 "$@" >out 2>reported </dev/null
+  timeout 120 "$@" >out 2>reported </dev/null
   is "$name: status" "$status" "$?"
   is "$name: reported" "$reported" "$(cat reported)"
 }
@@ -107,9 +107,9 @@ for _ in 1 2 3; do
 done
 
 # What was read is answered before the next read waits.
-coproc simulating { timeout 20 "$program" sim; }
+coproc simulating { timeout 120 "$program" sim; }
 echo 'begin up @400000000000000a00000000' >&"${simulating[1]}"
-IFS= read -r -t 10 answer <&"${simulating[0]}"
+IFS= read -r -t 60 answer <&"${simulating[0]}"
 is 'answered at once' 'took record:400000000000000a000000000000000000750000 start -> starting' "$answer"
 coproc_input=${simulating[1]}
 exec {coproc_input}>&-

@@ -34,18 +34,26 @@ restarted() { ends restart "$@"; }
 ends() {
   local command=$1 name=$2 status=$3 reported=$4
   shift 4
-  timeout -k 1 120 "$program" "$command" "$@" >out 2>reported </dev/null
+  timeout -k 1 300 "$program" "$command" "$@" >out 2>reported </dev/null
   is "$name: status" "$status" "$?"
   is "$name: reported" "$reported" "$(cat reported)"
   is "$name: printed" '' "$(cat out)"
 }
 
+# whether the command that `timeout` runs has looked, and rests until its next look
+rests() {
+  local child
+  read -r child _ <"/proc/$waiting/task/$waiting/children"
+  [ "/proc/$child/exe" -ef "$program" ] && [[ $(sed 's/.*) //' "/proc/$child/stat") == S* ]]
+} 2>/dev/null
+
 # begun NAME WORDS..: starts wait with these words, whose number is left in waiting; it is still there after two looks
 begun() {
   local name=$1
   shift
-  timeout -k 1 120 "$program" wait "$@" >out 2>reported </dev/null &
+  timeout -k 1 300 "$program" wait "$@" >out 2>reported </dev/null &
   waiting=$!
+  until_true rests
   sleep 0.3
   is "$name: it waits" yes "$(kill -0 "$waiting" 2>/dev/null && echo yes)"
 }
@@ -430,11 +438,11 @@ if [ "$(id -u)" = 0 ] && command -v setpriv >/dev/null; then
   chmod 700 t/supervise
   cp "$program" "/tmp/wait.$$" && chmod 755 "/tmp/wait.$$"
   for goal in -u -d -x -r; do
-    timeout 120 setpriv --reuid=65534 --regid=65534 --clear-groups "/tmp/wait.$$" wait $goal t >out 2>reported
+    timeout 300 setpriv --reuid=65534 --regid=65534 --clear-groups "/tmp/wait.$$" wait $goal t >out 2>reported
     is "no permission: $goal: status" 111 "$?"
     is "no permission: $goal: reported" 'wait: t: unable to open supervise/ok: Permission denied' "$(cat reported)"
   done
-  timeout 120 setpriv --reuid=65534 --regid=65534 --clear-groups "/tmp/wait.$$" restart t >out 2>reported
+  timeout 300 setpriv --reuid=65534 --regid=65534 --clear-groups "/tmp/wait.$$" restart t >out 2>reported
   is 'no permission: restart: status' 111 "$?"
   is 'no permission: restart: reported' 'restart: t: unable to open supervise/ok: Permission denied' "$(cat reported)"
   rm -f "/tmp/wait.$$"
@@ -562,7 +570,8 @@ ended 'nobody restarts it' 99 'wait: services/web: not restarted in time' -r -t 
 ended 'web and slow go down again' 0 '' -d -t 100 services/web services/slow
 
 # A service that ends at once, or within two seconds, and is started again and again, is never up: svwait -u returned 0 for
-# it, since for a moment before each death is taken the record says up. Each is looked at for six seconds.
+# it, since for a moment before each death is taken the record says up. Each is looked at for six seconds. On a machine that stands
+# still meanwhile the second one does live for two seconds.
 mkdir -p made/loop made/slower
 printf '#!/bin/sh\nexit 1\n' >made/loop/run
 printf '#!/bin/sh\nexec sleep 1.3\n' >made/slower/run
@@ -570,9 +579,13 @@ chmod 755 made/loop/run made/slower/run
 mv made/loop made/slower services
 until_true has_status services/loop
 until_true has_status services/slower
+look() { timeout -k 1 300 "$program" wait -u -t 6 services/loop services/slower >out 2>reported </dev/null; }
 for turn in 1 2 3; do
-  ended "a crash loop, $turn" 99 'wait: services/loop: not up in time
-wait: services/slower: not up in time' -u -t 6 services/loop services/slower
+  undisturbed look
+  is "a crash loop, $turn: status" 99 "$?"
+  is "a crash loop, $turn: reported" 'wait: services/loop: not up in time
+wait: services/slower: not up in time' "$(cat reported)"
+  is "a crash loop, $turn: printed" '' "$(cat out)"
 done
 "$program" svc -d services/loop services/slower
 ended 'a crash loop goes down' 0 '' -d -t 100 services/loop services/slower

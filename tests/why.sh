@@ -50,7 +50,7 @@ trace() {
 said() {
   local name=$1 wanted_status=$2 line=$3 folder=${4-s} missing=${5-} before got_status moment time found=no second
   before=$(date +%s)
-  timeout 5 "$program" why "$folder" >out 2>reported </dev/null
+  timeout 60 "$program" why "$folder" >out 2>reported </dev/null
   got_status=$?
   is "$name: status" "$wanted_status" "$got_status"
   is "$name: reported" "$missing" "$(cat reported)"
@@ -101,20 +101,20 @@ rm s/down
 
 # Times that no calendar reports.
 bytes 000000000000000000000000671200000075 >s/supervise/status
-timeout 5 "$program" why s >out
+timeout 60 "$program" why s >out
 is 'long ago' 's is up since @000000000000000000000000 (' "$(grep -o '^s is up since @[0-9a-f]* (' out)"
 bytes 7fffffffffffffff3b9ac9ff671200000075 >s/supervise/status
-timeout 5 "$program" why s >out
+timeout 60 "$program" why s >out
 is 'at the end of all labels' 's is up since @7fffffffffffffff3b9ac9ff (0 s), process 4711.' "$(cat out)"
 bytes 400000003a4fc88a00000000671200000075 >s/supervise/status
-timeout 5 "$program" why s >out
+timeout 60 "$program" why s >out
 is 'the first second of 2001' 's is up since 2001-01-01 00:00:00 (' "$(grep -o '^s is up since [^(]*(' out)"
 bytes 400000003c30fc0900000000671200000075 >s/supervise/status
-timeout 5 "$program" why s >out
+timeout 60 "$program" why s >out
 is 'the last second of 2001' "s is up since $(date -u -d @$((0x3c30fc09 - 10)) '+%F %T') (" "$(grep -o '^s is up since [^(]*(' out)"
 for day in 2000-02-28 2000-02-29 2000-03-01 2024-12-31 2025-01-01 2100-02-28 2100-03-01 9999-12-31 1970-01-01; do
   bytes "$(printf '%016x00000000671200000075' $((4611686018427387914 + $(date -u -d "$day 23:59:58" +%s))))" >s/supervise/status
-  timeout 5 "$program" why s >out
+  timeout 60 "$program" why s >out
   is "the day $day" "s is up since $day 23:59:58 (" "$(grep -o '^s is up since [^(]*(' out)"
 done
 
@@ -217,7 +217,7 @@ again
 cc -O1 -shared -fPIC -o devices.so "$tests/devices.c" -ldl || exit 1
 status 90 4711 0 $up 0 3
 trace 0 starting "$begun" - 'started 4711 90' 'clock 91'
-timeout 5 env LD_PRELOAD="$room/devices.so" CLOCK=$((start + 100)) CLOCK_OPENS=/supervise/trace "$program" why s >out
+timeout 60 env LD_PRELOAD="$room/devices.so" CLOCK=$((start + 100)) CLOCK_OPENS=/supervise/trace "$program" why s >out
 is 'the clock after the trace' "s is up since $(date -u -d "@$((start + 90))" '+%F %T') (1010 s), process 4711." \
   "$(grep -o '^s is up since [^(]*([0-9]* s), process 4711\.' out)"
 
@@ -309,7 +309,7 @@ said 'a trace before p and d' 0 's is up since {90}, process 4711, paused, wante
 # A start that is still to come, by its label.
 status 200 4711 0 $up 0 3
 trace 0 starting "$begun" - 'started 4711 200' 'clock 201'
-timeout 5 "$program" why s >out
+timeout 60 "$program" why s >out
 is 'a start to come' "s is up since $(date -u -d "@$((start + 200))" '+%F %T') (0 s), process 4711." "$(cat out)"
 
 # Timelines. The picture begins at the moment 0, which is 80 hours ago: a column is an hour, and the little that this script
@@ -325,7 +325,7 @@ drawn() {
     bar+=$(many "$1" "$2")
     shift 2
   done
-  timeout 5 "$program" why --timeline s >out 2>reported </dev/null
+  timeout 60 "$program" why --timeline s >out 2>reported </dev/null
   is "$name: status" 0 "$?"
   is "$name: reported" '' "$(cat reported)"
   is "$name: lines" 3 "$(wc -l <out)"
@@ -395,7 +395,7 @@ drawn 'a death to come' 1 + 78 '#' 1 +
 status 300000 4711 0 $up 0 3
 trace 0 starting "$(record 290000 0 0 $up)" - 'started 4711 300000' 'clock 300001'
 before=$(date +%s)
-timeout 5 "$program" why --timeline s >out
+timeout 60 "$program" why --timeline s >out
 is 'all to come' "$(many 80 '#')" "$(sed -n 2p out)"
 found=no
 for second in $(seq "$before" "$(date +%s)"); do
@@ -414,7 +414,7 @@ trace 0 starting "$begun" -
 drawn 'no entries that lead there' 80 '?'
 unreported='No timeline: it has no trace that can be read.'
 rm s/supervise/trace
-timeout 5 "$program" why --timeline s >out
+timeout 60 "$program" why --timeline s >out
 is 'a timeline of no trace' "$unreported" "$(sed -n '2,$p' out)"
 again
 begun=$(record 1 0 0 $up)
@@ -476,10 +476,10 @@ door.listen(0)
 first = socket.socket(socket.AF_UNIX)
 first.connect("full/supervise/ok")
 open("full/supervise/listens", "w").close()
-time.sleep(60)
+time.sleep(600)
 ' &
 listeners+=($!)
-for _ in $(seq 100); do [ -e full/supervise/listens ] && break; sleep 0.02; done
+for _ in $(seq 1500); do [ -e full/supervise/listens ] && break; sleep 0.02; done
 said 'a full queue' 111 "full can't be reached." full
 # As another user, if this one may be that.
 if [ "$(id -u)" = 0 ] && command -v setpriv >/dev/null; then
@@ -511,59 +511,61 @@ reported() {
   is "$1: printed" "$3" "$(cat out)"
   is "$1: reported" "$4" "$(cat reported)"
 }
-timeout 5 "$program" why >out 2>reported </dev/null
+timeout 60 "$program" why >out 2>reported </dev/null
 status=$?
 reported 'no words' 0 '' ''
-timeout 5 "$program" why s nosuch -x empty >out 2>reported </dev/null
+timeout 60 "$program" why s nosuch -x empty >out 2>reported </dev/null
 status=$?
 reported 'in order' 111 's is up since @7fffffffffffffff3b9ac9ff (0 s), process 4711.
 nosuch is not supervised: there is no such folder.
 -x is up since @7fffffffffffffff3b9ac9ff (0 s), process 4711.
 empty is not supervised: nothing accepts connections at its supervise/ok.' 'why: nosuch: No such file or directory'
-timeout 5 "$program" why --timeline >out 2>reported </dev/null
+timeout 60 "$program" why --timeline >out 2>reported </dev/null
 status=$?
 reported 'a timeline of nothing' 0 '' ''
-timeout 5 "$program" why --timeline s nosuch -x >out 2>reported </dev/null
+timeout 60 "$program" why --timeline s nosuch -x >out 2>reported </dev/null
 status=$?
 reported 'timelines in order' 111 "s is up since @7fffffffffffffff3b9ac9ff (0 s), process 4711.
 $unreported
 nosuch is not supervised: there is no such folder.
 -x is up since @7fffffffffffffff3b9ac9ff (0 s), process 4711.
 $unreported" 'why: nosuch: No such file or directory'
-timeout 5 "$program" why empty --timeline >out 2>reported </dev/null
+timeout 60 "$program" why empty --timeline >out 2>reported </dev/null
 status=$?
 reported 'a service of that name' 111 'empty is not supervised: nothing accepts connections at its supervise/ok.
 --timeline is not supervised: there is no such folder.' 'why: --timeline: No such file or directory'
-timeout 5 "$program" why --timeline s >/dev/full 2>reported </dev/null
+timeout 60 "$program" why --timeline s >/dev/full 2>reported </dev/null
 status=$?
 : >out
 reported 'a full device for a timeline' 111 '' 'why: write fault: No space left on device'
 # A word that is no text names no service: it is shown escaped, with the zero byte that no name has, and the others are
 # shown as ever.
-timeout 5 "$program" why $'bad\xff' s >out 2>reported </dev/null
+timeout 60 "$program" why $'bad\xff' s >out 2>reported </dev/null
 status=$?
 tr -d '\0' <reported >reported.text && mv reported.text reported
 reported 'a word that is no text' 111 "bad\\xff\\x00 can't be reached.
 s is up since @7fffffffffffffff3b9ac9ff (0 s), process 4711." 'why: bad\xff: Invalid argument'
-timeout 5 "$program" why s >/dev/full 2>reported </dev/null
+timeout 60 "$program" why s >/dev/full 2>reported </dev/null
 status=$?
 : >out
 reported 'a full device' 111 '' 'why: write fault: No space left on device'
 
-# A service that ends at once, under svscan: each look names its last end, at whatever moment it comes.
+# A service that ends at once, under svscan: each look names its last end, at whatever moment it comes: the one that the file
+# exit has before the look, or after it, or one between them.
 mkdir -p scanned/flap
-printf '#!/bin/sh\nexit 3\n' >scanned/flap/run
+printf '#!/bin/sh\necho $$ >>numbers\nexit 3\n' >scanned/flap/run
 chmod +x scanned/flap/run
 "$program" svscan scanned >/dev/null 2>&1 </dev/null &
 listeners+=($!)
-for _ in $(seq 200); do [ -e scanned/flap/supervise/exit ] && break; sleep 0.05; done
+for _ in $(seq 1200); do [ -e scanned/flap/supervise/exit ] && break; sleep 0.05; done
 last_end() { cut -d ' ' -f 1 scanned/flap/supervise/exit; }
 named=0
 for look in $(seq 60); do
   before=$(last_end)
-  line=$(timeout 5 "$program" why scanned/flap)
+  line=$(timeout 60 "$program" why scanned/flap)
   if [[ $line =~ rocess\ ([0-9]+)\ (ran\ [0-9.]+\ s\ and\ )?ended\ with\ status\ 3 ]]; then
-    case ${BASH_REMATCH[1]} in "$before" | "$(last_end)") named=$((named + 1)) ;; esac
+    after=$(last_end)
+    sed -n "/^$before\$/,\$p" scanned/flap/numbers | sed "/^$after\$/q" | grep -qx "${BASH_REMATCH[1]}" && named=$((named + 1))
   fi
   sleep 0.0$((look % 10))
 done

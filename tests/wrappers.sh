@@ -22,12 +22,12 @@ is_real() { grep -qx "/usr/bin/$1" <<<"$real"; }
 ended() {
   local name=$1 status=$2 printed=$3 reported=$4 command=$5
   shift 5
-  timeout 10 "$top/scripts/$command" "$@" >out 2>reported </dev/null
+  timeout 120 "$top/scripts/$command" "$@" >out 2>reported </dev/null
   is "$command, $name: status" "$status" "$?"
   is "$command, $name: printed" "$printed" "$(cat out)"
   is "$command, $name: reported" "$reported" "$(cat reported)"
   is_real "$command" || return
-  timeout 10 "/usr/bin/$command" "$@" >real.out 2>/dev/null </dev/null
+  timeout 120 "/usr/bin/$command" "$@" >real.out 2>/dev/null </dev/null
   is "$command of daemontools, $name: status" "$status" "$?"
   is "$command of daemontools, $name: printed" "$printed" "$(cat real.out)"
 }
