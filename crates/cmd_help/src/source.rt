@@ -4,4 +4,4 @@
 pub(crate) const KIT: &str = "rattle-kit-13f logic dac8208d650f15bf";
 
 /// The sum of its sources, as packaging/source-sum says it.
-pub(crate) const SOURCE: &str = "5c508a1b153f5579605e2407c30fb80846b3c79b0c67396bc08a763407c247fc";
+pub(crate) const SOURCE: &str = "43ad943a48f5f5ec3df9587f29a7d95c3c66dc558792415830ca3f317d554735";
