@@ -193,11 +193,15 @@ def stops_one():
 
 
 def moves_one():
-    name = random.choice(SERVICES)
+    name, letters = random.choice(SERVICES), random.choice(["dx", "x"])
+    # A letter to a service that svscan has not begun is lost.
+    until(10, lambda: is_served(name))
     os.rename(f"d/{name}", f"gone-{name}")
     time.sleep(random.uniform(0, 0.5))
-    svc("x", f"../gone-{name}")
-    until(5, lambda: not any(is_alive(pid) for pid in starts(name)[-5:]))
+    svc(letters, f"../gone-{name}")
+    # After `x` alone a process runs on, as long as it likes.
+    if letters == "dx":
+        until(5, lambda: not any(is_alive(pid) and runs_in(pid, f"gone-{name}") for pid in starts(name)[-5:]))
     os.rename(f"gone-{name}", f"d/{name}")
     svc("a", ".svscan")
 
