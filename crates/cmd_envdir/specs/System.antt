@@ -63,10 +63,6 @@ entry_put variables entry =
     then put variables (before_first (λ b. b == 61) entry) (after_first (λ b. b == 61) entry)
     else variables
 
--- the bytes of words
-abbrev pub texts : List (Bor (List ℕ)) → List (List ℕ)
-texts words = map (λ word. word.now) words
-
 -- A program and its arguments.
 pub record Child : Type 0 where
   pub program : List ℕ

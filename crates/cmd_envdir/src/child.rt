@@ -2,7 +2,8 @@
 ghost use Rattle.std.specs.Prelude.{◌≡◌, ◌++◌, ◌∷◌, [], ℕ, List, false, IfOk, IfErr, OnOk};
 ghost use Rattle.std.specs.Process.{command_args, command_program, command_var, clears_env, exit_code, SameEnv};
 ghost use Rattle.std.specs.Process.{SameProgramAndArgs};
-ghost use Rattle.cmd_envdir.specs.System.{start_of, texts};
+ghost use Rattle.cmd_envdir.specs.System.{start_of};
+ghost use Rattle.tai_status.specs.Words.{texts};
 ghost use Rattle.cmd_envdir.specs.Child.{IsCauseOf, IsOfStart, StartsChild, StartsNone, StartsOne, status_of_child};
 ghost use Rattle.cmd_envdir.specs.Sayings.{said_after_files, said_after_set};
 
@@ -24,7 +25,8 @@ pub struct Program<'a> {
 }
 
 impl<'a> Model for Program<'a> {
-    ghost use Rattle.cmd_envdir.specs.System.{Child, child, texts};
+    ghost use Rattle.cmd_envdir.specs.System.{Child, child};
+    ghost use Rattle.tai_status.specs.Words.{texts};
 
     ghost Value = { Child };
 

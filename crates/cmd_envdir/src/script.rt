@@ -3,7 +3,7 @@ ghost use Rattle.std.specs.Prelude.{◌≡◌, ◌++◌, List, string_bytes, fla
 ghost use Rattle.env_title.specs.Env.{Binding};
 ghost use Rattle.env_title.specs.Files.{env_after, is_hidden};
 ghost use Rattle.cmd_envdir.specs.Names.{own_names};
-ghost use Rattle.cmd_envdir.specs.System.{texts};
+ghost use Rattle.tai_status.specs.Words.{texts};
 ghost use Rattle.cmd_envdir.specs.Script.{assignment, names_file, ReadsAsScriptOf};
 ghost use Rattle.cmd_envdir.specs.Quoting.{
   are_none,

@@ -57,7 +57,3 @@ abbrev pub TaiEnds : {C : Type 0} (words : List (List ℕ)) (status : ℕ) (read
 TaiEnds words status readings clock read reader reads writer writes faults reports =
     StampsEnd words status (readings clock) (readings read) (console reader writer faults)
     (console reads writes reports)
-
--- the texts of words
-abbrev pub texts : List (Bor (List ℕ)) → List (List ℕ)
-texts words = map (λ word. word.now) words

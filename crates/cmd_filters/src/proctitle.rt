@@ -3,7 +3,7 @@ ghost use Rattle.std.specs.Prelude.{◌≡◌, ◌↔◌, ◌<◌, ◌≢◌, []
 ghost use Rattle.tai_status.specs.Counted.{Fails, Works, Wrote, WroteFront, IsRead, Reports};
 ghost use Rattle.env_title.specs.Title.{new_title, title_text};
 ghost use Rattle.cmd_base.specs.Console.{console};
-ghost use Rattle.cmd_filters.specs.Stamped.{texts};
+ghost use Rattle.tai_status.specs.Words.{texts};
 ghost use Rattle.cmd_filters.specs.Title.{NoTitle, ShowsTitle, ShowsRead, TitleEnds, WritesTitle, proctitle_report};
 ghost use Rattle.cmd_filters.specs.Title.{proctitle_status};
 

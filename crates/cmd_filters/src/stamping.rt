@@ -1,7 +1,8 @@
 //! The command `tai64n`.
 ghost use Rattle.std.specs.Prelude.{◌≡◌, ◌<◌, [], length};
 ghost use Rattle.tai_status.specs.Counted.{Reports};
-ghost use Rattle.cmd_filters.specs.Stamped.{TaiEnds, stamp_report, texts};
+ghost use Rattle.cmd_filters.specs.Stamped.{TaiEnds, stamp_report};
+ghost use Rattle.tai_status.specs.Words.{texts};
 
 use cmd_base::{Command, DONE, report_device, usage};
 use std::io::{Read, Write};

@@ -62,7 +62,3 @@ abbrev pub FilterEnds : (ahead : ℤ → ℤ) (words : List (List ℕ)) (status 
     (reader reads writer writes faults reports : Device) → Type 0
 FilterEnds ahead words status reader reads writer writes faults reports =
     LocalEnds ahead words status (console reader writer faults) (console reads writes reports)
-
--- the texts of words
-abbrev pub texts : List (Bor (List ℕ)) → List (List ℕ)
-texts words = map (λ word. word.now) words

@@ -3,7 +3,8 @@ ghost use Rattle.std.specs.Prelude.{◌≡◌, ◌<◌, ◌≤◌, ◌+◌, ◌-
 ghost use Rattle.tai_status.specs.Counted.{CountsRead, Fails, Works, Gives, GivesNothing, IsRead, Wrote, WroteFront};
 ghost use Rattle.tai_status.specs.Counted.{Reports};
 ghost use Rattle.cmd_base.specs.Console.{console};
-ghost use Rattle.cmd_local.specs.Ends.{FilterEnds, LocalByStatus, LocalCause, Localises, local_report, texts};
+ghost use Rattle.cmd_local.specs.Ends.{FilterEnds, LocalByStatus, LocalCause, Localises, local_report};
+ghost use Rattle.tai_status.specs.Words.{texts};
 ghost use Rattle.cmd_local.specs.Lines.{localised_line};
 ghost use Rattle.cmd_local.specs.Local.{local_text};
 ghost use Rattle.cmd_local.specs.Passing.{IsHeld, Moves, passed};

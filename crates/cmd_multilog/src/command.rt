@@ -1,7 +1,7 @@
 //! The command `multilog`.
 ghost use Rattle.std.specs.Prelude.{◌≡◌, [], slice_get, unwrap_or, IfOk, IfErr};
 ghost use Rattle.tai_status.specs.Counted.{Reports};
-ghost use Rattle.mlog_script.specs.Script.{texts};
+ghost use Rattle.tai_status.specs.Words.{texts};
 ghost use Rattle.cmd_multilog.specs.Opening.{folders_of};
 ghost use Rattle.mlog_script.specs.Script.{file_paths};
 ghost use Rattle.cmd_multilog.specs.Ends.{IsSaidBy, IsRefusal, refusal_report, refusal_status, open_report, EndsBy};

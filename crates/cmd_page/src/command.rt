@@ -1,5 +1,5 @@
 //! The command `svstat`, in each of its forms.
-ghost use Rattle.cmd_svc.specs.Words.{texts};
+ghost use Rattle.tai_status.specs.Words.{texts};
 ghost use Rattle.cmd_page.specs.Ends.{ViewEnds};
 
 use crate::report::run_page;

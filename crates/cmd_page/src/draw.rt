@@ -1,6 +1,6 @@
 //! What is found about services, as a page.
 ghost use Rattle.std.specs.Prelude.{◌≡◌, IfOk, OnErr, OnOk};
-ghost use Rattle.cmd_svc.specs.Words.{texts};
+ghost use Rattle.tai_status.specs.Words.{texts};
 ghost use Rattle.cmd_report.specs.Finds.{FindsFront};
 ghost use Rattle.cmd_page.specs.Page.{status_of};
 ghost use Rattle.cmd_page.specs.PageEnds.{AddsRow, AddsRows, Draws, DrawsNone, IsSince, ReadsClock};

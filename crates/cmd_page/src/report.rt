@@ -1,5 +1,5 @@
 //! The command `svstat --html`.
-ghost use Rattle.cmd_svc.specs.Words.{texts};
+ghost use Rattle.tai_status.specs.Words.{texts};
 ghost use Rattle.cmd_page.specs.PageEnds.{PageEnds};
 
 use crate::draw::draw;

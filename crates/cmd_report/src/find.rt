@@ -1,6 +1,6 @@
 //! A look at each of many services.
 ghost use Rattle.std.specs.Prelude.{◌≡◌, IfOk, OnErr};
-ghost use Rattle.cmd_svc.specs.Words.{texts};
+ghost use Rattle.tai_status.specs.Words.{texts};
 ghost use Rattle.cmd_report.specs.Finds.{FindsFront, FindsOne, FindsWords, ReadsCounts, SeeksPast};
 
 use crate::counts::counts_in;

@@ -1,7 +1,7 @@
 //! The command `svstat --json`.
 ghost use Rattle.std.specs.Prelude.{◌≡◌, ◌∷◌, [], ◌++◌, OnOk, IfOk, IfErr};
 ghost use Rattle.tai_status.specs.Counted.{Wrote, Works};
-ghost use Rattle.cmd_svc.specs.Words.{texts};
+ghost use Rattle.tai_status.specs.Words.{texts};
 ghost use Rattle.svc_client.specs.Turns.{InTurn};
 ghost use Rattle.cmd_svc.specs.Svstat.{scene, WritesNot};
 ghost use Rattle.cmd_report.specs.Json.{json_line};

@@ -1,5 +1,5 @@
 //! The command `svstat --metrics`.
-ghost use Rattle.cmd_svc.specs.Words.{texts};
+ghost use Rattle.tai_status.specs.Words.{texts};
 ghost use Rattle.cmd_report.specs.MetricsEnds.{MetricsEnds};
 
 use crate::find::find_all;

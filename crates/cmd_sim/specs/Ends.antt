@@ -114,10 +114,6 @@ TableByStatus status writer writes faults reports =
 abbrev pub TableEnds : (status : ℕ) (old new : Console) → Type 0
 TableEnds status old new = (new.reader ≡ old.reader) × TableByStatus status old.writer new.writer old.faults new.faults
 
--- the texts of words
-abbrev pub texts : List (Bor (List ℕ)) → List (List ℕ)
-texts words = map (λ word. word.now) words
-
 -- `sim` answers its input, `sim table` prints the table, and other words are wrong.
 abbrev pub SimEnds : (words : List (List ℕ)) (status : ℕ) (old new : Console) → Type 0
 SimEnds [] status old new = AnswersByStatus status old new

@@ -2,7 +2,8 @@
 ghost use Rattle.std.specs.Prelude.{◌≡◌, []};
 ghost use Rattle.tai_status.specs.Counted.{Reports};
 ghost use Rattle.cmd_base.specs.Console.{console};
-ghost use Rattle.cmd_sim.specs.Ends.{AnswersByStatus, SimEnds, TableByStatus, texts, refused_report, report_of};
+ghost use Rattle.cmd_sim.specs.Ends.{AnswersByStatus, SimEnds, TableByStatus, refused_report, report_of};
+ghost use Rattle.tai_status.specs.Words.{texts};
 ghost use Rattle.cmd_sim.specs.Ends.{status_of, unwritten_report};
 ghost use Rattle.cmd_sim.specs.Headline.{Headline};
 

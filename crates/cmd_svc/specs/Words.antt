@@ -6,10 +6,6 @@ use Rattle.std.specs.List.{list_all, IsDistinct}
 use Rattle.std.specs.Borrow.{Bor}
 use Rattle.sup_core.specs.Rules.{is_letter}
 
--- the words that references lead to
-abbrev pub texts : List (Bor (List ℕ)) → List (List ℕ)
-texts words = map (λ word. word.now) words
-
 -- the word `--`
 abbrev pub is_end : List ℕ → Bool
 is_end word = bytes_eq word (codes "--")

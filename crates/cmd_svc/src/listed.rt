@@ -5,7 +5,7 @@ ghost use Rattle.tai_status.specs.Loading.{status_in};
 ghost use Rattle.cmd_svc.specs.Line.{wants_up};
 ghost use Rattle.cmd_svc.specs.Listed.{code_end, code_of, is_colored, listed_line, room_for, shade_of, shaded};
 ghost use Rattle.cmd_svc.specs.Listed.{used_shade, widest, word_length};
-ghost use Rattle.cmd_svc.specs.Words.{texts};
+ghost use Rattle.tai_status.specs.Words.{texts};
 
 use crate::escaping::shown;
 use crate::form::LineForm;

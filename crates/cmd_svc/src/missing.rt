@@ -1,6 +1,6 @@
 //! What is reported about services whose folders don't exist.
 ghost use Rattle.cmd_svc.specs.Missing.{TellsEach, TellsMissing, telling};
-ghost use Rattle.cmd_svc.specs.Words.{texts};
+ghost use Rattle.tai_status.specs.Words.{texts};
 
 use cmd_base::{DONE, cause_note, report_parts};
 use std::io::Write;

@@ -1,6 +1,7 @@
 //! The command `svc`.
 ghost use Rattle.std.specs.Prelude.{◌≡◌, codes, false, if◌then◌else◌};
-ghost use Rattle.cmd_svc.specs.Words.{service_words, texts};
+ghost use Rattle.cmd_svc.specs.Words.{service_words};
+ghost use Rattle.tai_status.specs.Words.{texts};
 ghost use Rattle.tai_status.specs.Counted.{Reports};
 ghost use Rattle.svc_client.specs.Turns.{InTurn};
 ghost use Rattle.cmd_svc.specs.Svc.{effects, letter_report, missed_status, order_words, reason, sending};

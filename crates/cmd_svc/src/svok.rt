@@ -1,5 +1,5 @@
 //! The command `svok`.
-ghost use Rattle.cmd_svc.specs.Words.{texts};
+ghost use Rattle.tai_status.specs.Words.{texts};
 ghost use Rattle.cmd_svc.specs.Svok.{SvokEnds};
 
 use cmd_base::{DONE, REFUSED};

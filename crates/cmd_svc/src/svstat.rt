@@ -1,7 +1,7 @@
 //! The command `svstat`.
 ghost use Rattle.std.specs.Prelude.{◌≡◌, ◌∷◌, [], ◌++◌, OnOk, IfOk, IfErr};
 ghost use Rattle.tai_status.specs.Counted.{Reports, Wrote, Works};
-ghost use Rattle.cmd_svc.specs.Words.{texts};
+ghost use Rattle.tai_status.specs.Words.{texts};
 ghost use Rattle.svc_client.specs.Turns.{InTurn};
 ghost use Rattle.cmd_svc.specs.Svstat.{scene, shown_line, Shows, ShowsNot, ShowsUpTo};
 ghost use Rattle.cmd_svc.specs.Svstat.{SvstatEnds, WritesNot, svstat_report};

@@ -1,5 +1,6 @@
 ghost use Rattle.std.specs.Prelude.{◌≡◌, ◌<◌, true, drop, length, IsOk, IsErr, IsErrOf, IfOk, MatchOption};
-ghost use Rattle.cmd_svc.specs.Words.{texts, is_option, after_options, order_bytes, service_words, unknown_in};
+ghost use Rattle.cmd_svc.specs.Words.{is_option, after_options, order_bytes, service_words, unknown_in};
+ghost use Rattle.tai_status.specs.Words.{texts};
 ghost use Rattle.cmd_svc.specs.Svc.{RefusesUnknown};
 
 use crate::order::{Order, OrderBytes, SvcFault};

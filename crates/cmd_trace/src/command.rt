@@ -1,7 +1,7 @@
 //! The command `trace`.
 ghost use Rattle.std.specs.Prelude.{◌≡◌, OnOk, IfErr, IfOk, string_bytes};
 ghost use Rattle.tai_status.specs.Counted.{Works, Reports};
-ghost use Rattle.cmd_local.specs.Ends.{texts};
+ghost use Rattle.tai_status.specs.Words.{texts};
 ghost use Rattle.cmd_trace.specs.Traced.{FileEnds, FolderEnds, PathEnds, Shows, ReportsMissed, TextEnds, TraceCause};
 ghost use Rattle.cmd_trace.specs.Traced.{TraceEnds, WordEnds, known_in, times_asked, times_in, trace_in};
 ghost use Rattle.cmd_trace.specs.Traced.{refused_text, trouble_text};

@@ -10,7 +10,7 @@ use Rattle.cmd_svc.specs.Svstat.{fault_name}
 use Rattle.svc_client.specs.Calls.{Call}
 use Rattle.svc_client.specs.Turns.{InTurn}
 use Rattle.cmd_svc.specs.Missing.{TellsEach, telling}
-use Rattle.cmd_svc.specs.Words.{texts}
+use Rattle.tai_status.specs.Words.{texts}
 use Rattle.cmd_wait.specs.Steps.{Step, Read, Sight, sight, IsOver}
 use Rattle.cmd_wait.specs.Watching.{Watched, watched, first_watch}
 use Rattle.cmd_wait.specs.Words.{Order, order, Asks, AskNothing}

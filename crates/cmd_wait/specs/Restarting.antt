@@ -7,7 +7,7 @@ use Rattle.cmd_base.specs.declared.command.Command.TheVariants as command
 use Rattle.svc_client.specs.Calls.{Call}
 use Rattle.cmd_svc.specs.Svc.{Serves, sending}
 use Rattle.svc_client.specs.Turns.{InTurn}
-use Rattle.cmd_svc.specs.Words.{texts}
+use Rattle.tai_status.specs.Words.{texts}
 use Rattle.cmd_wait.specs.Steps.{Step, sight}
 use Rattle.cmd_wait.specs.Words.{Order, AskNoRestart, AsksRestart}
 use Rattle.cmd_wait.specs.Finding.{Awaited}

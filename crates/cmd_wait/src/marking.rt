@@ -1,6 +1,6 @@
 //! The first look at services whose restart is waited for.
 ghost use Rattle.std.specs.Prelude.{◌≡◌, OnOk, IfErr, IfOk};
-ghost use Rattle.cmd_svc.specs.Words.{texts};
+ghost use Rattle.tai_status.specs.Words.{texts};
 ghost use Rattle.cmd_wait.specs.Finding.{awaited, entry_folders, unmarked};
 ghost use Rattle.cmd_wait.specs.Marking.{absent_mark, is_refused, mark_in, process_in, shown_mark, unsupervised_mark};
 ghost use Rattle.cmd_wait.specs.Marking.{Glimpses, MarksEach, MarksNot};

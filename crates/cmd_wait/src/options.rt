@@ -1,6 +1,6 @@
 //! The words of `wait`.
 ghost use Rattle.std.specs.Prelude.{◌≡◌, ⊤, ℕ, Option, MatchOption, IfSome, unwrap_or};
-ghost use Rattle.cmd_svc.specs.Words.{texts};
+ghost use Rattle.tai_status.specs.Words.{texts};
 ghost use Rattle.cmd_wait.specs.Words.{behind_state, behind_limit, behind_options, first_state, state_in, state_of};
 ghost use Rattle.cmd_wait.specs.Words.{order, services_of};
 ghost use Rattle.cmd_wait.specs.Words.{AreSeconds, AskNoRestart, AskNothing, Asks, AsksRestart, FirstLimit};

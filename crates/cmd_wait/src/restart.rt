@@ -2,7 +2,7 @@
 ghost use Rattle.std.specs.Prelude.{◌≡◌, false};
 ghost use Rattle.cmd_svc.specs.Svc.{Serves, sending};
 ghost use Rattle.svc_client.specs.Turns.{InTurn};
-ghost use Rattle.cmd_svc.specs.Words.{texts};
+ghost use Rattle.tai_status.specs.Words.{texts};
 ghost use Rattle.cmd_wait.specs.Finding.{awaited, unmarked};
 ghost use Rattle.cmd_wait.specs.Restarting.{RestartEnds, RestartsAndTells, RestartsAsked, restart_bytes};
 ghost use Rattle.cmd_wait.specs.Restarting.{restart_warning, sent_at, sent_to};

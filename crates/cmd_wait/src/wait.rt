@@ -1,6 +1,6 @@
 //! The command `wait`.
 ghost use Rattle.std.specs.Prelude.{◌≡◌};
-ghost use Rattle.cmd_svc.specs.Words.{texts};
+ghost use Rattle.tai_status.specs.Words.{texts};
 ghost use Rattle.cmd_wait.specs.Ends.{MarksAsked, WaitEnds, WaitsAsked, WaitsAndTells, WaitsMarked};
 ghost use Rattle.cmd_wait.specs.Finding.{awaited, unmarked};
 

@@ -3,7 +3,7 @@ ghost use Rattle.std.specs.Prelude.{◌≡◌, false, if◌then◌else◌, OnOk,
 ghost use Rattle.std.specs.Option.{option_copied};
 ghost use Rattle.std.specs.Prelude.{option_map};
 ghost use Rattle.tai_status.specs.Counted.{Reports, Wrote, Works};
-ghost use Rattle.cmd_svc.specs.Words.{texts};
+ghost use Rattle.tai_status.specs.Words.{texts};
 ghost use Rattle.cmd_why.specs.Facts.{facts_of};
 ghost use Rattle.cmd_why.specs.Why.{found_text, is_unread, why_report, FindsStanding, IsDrawing};
 ghost use Rattle.cmd_why.specs.Why.{IsPicture, IsTraceOf, Looks, LooksInPart, MayReadExit, Reaches, ReadsExit};

@@ -1,7 +1,7 @@
 //! The table of the commands.
 ghost use Rattle.std.specs.Prelude.{◌≡◌, []};
 ghost use Rattle.cmd_base.specs.Known.{known_files};
-ghost use Rattle.cmd_envdir.specs.System.{texts};
+ghost use Rattle.tai_status.specs.Words.{texts};
 ghost use Rattle.cmd_why.specs.Texts.{knowledge};
 ghost use Rattle.tai_status.specs.Counted.{Reports};
 ghost use Rattle.dtools.specs.Commands.{ChildEnds, Leaves, LoggerEnds, PacedEnds, PlainEnds, ReasonEnds, ScanEnds};

@@ -37,10 +37,6 @@ pub data Act : Type 0 where
 
 -- Words
 
--- the words that these references refer to
-abbrev pub texts : List (Bor (List ℕ)) → List (List ℕ)
-texts words = map (λ word. word.now) words
-
 abbrev pub is_digit : ℕ → Bool
 is_digit byte = nat_le 48 byte && nat_le byte 57
 

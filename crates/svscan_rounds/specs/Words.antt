@@ -2,10 +2,6 @@
 use Rattle.std.specs.Prelude.{◌≡◌, ℕ, ◌<◌, ◌^◌, List, [], ◌∷◌, map, codes, decimal, Option, None, MatchOption}
 use Rattle.std.specs.Borrow.{Bor}
 
--- the texts of words
-abbrev pub texts : List (Bor (List ℕ)) → List (List ℕ)
-texts words = map (λ word. word.now) words
-
 -- The word is the decimal text of a number of rounds, 1 to 4294967295.
 pub record ReportsRounds (word : List ℕ) (number : ℕ) : Type 0 where
   pub is : word ≡ decimal number

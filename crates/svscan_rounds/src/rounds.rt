@@ -11,7 +11,7 @@ ghost use Rattle.svscan_rounds.specs.Rounds.{unmade_report};
 ghost use Rattle.svscan_rounds.specs.Rounds.{unread_report};
 ghost use Rattle.svscan_rounds.specs.Rounds.{BeginsAndRuns, EndsAll, Leaves, Rests, Runs, SvscanEnds, TakesRound};
 ghost use Rattle.svscan_rounds.specs.Rounds.{ReportsAll};
-ghost use Rattle.svscan_rounds.specs.Words.{texts};
+ghost use Rattle.tai_status.specs.Words.{texts};
 
 use crate::orders::{Order, order_of};
 use crate::service_set::{

@@ -4,7 +4,7 @@ ghost use Rattle.svscan_rounds.specs.Rounds.{effects, ReportsAll};
 ghost use Rattle.svscan_rounds.specs.Supervise.{fault_report, lines_of_kept, lines_of_loss, lines_of_trace};
 ghost use Rattle.svscan_rounds.specs.Supervise.{lines_of_untaken, locked_report, refused_report};
 ghost use Rattle.svscan_rounds.specs.Supervise.{Outlasts, SuperviseEnds, Supervises};
-ghost use Rattle.svscan_rounds.specs.Words.{texts};
+ghost use Rattle.tai_status.specs.Words.{texts};
 
 use crate::rounds::not_taken;
 use crate::service_set::{ServiceSet, Sight, Supervision};

@@ -1,6 +1,7 @@
 //! The words of `svscan`.
 ghost use Rattle.std.specs.Prelude.{◌≡◌, ℕ, MatchOption, ⊤, IfSome};
-ghost use Rattle.svscan_rounds.specs.Words.{ReportsRounds, Asks, AskNothing, texts};
+ghost use Rattle.svscan_rounds.specs.Words.{ReportsRounds, Asks, AskNothing};
+ghost use Rattle.tai_status.specs.Words.{texts};
 
 use sup_core::read_number;
 

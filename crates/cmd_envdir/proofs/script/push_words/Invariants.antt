@@ -1,7 +1,7 @@
 use Rattle.std.proofs.Common.{◌≡◌, ◌++◌, take}
 use Rattle.std.specs.Prelude.{flat_map}
 use Rattle.cmd_envdir.specs.Quoting.{word_text}
-use Rattle.cmd_envdir.specs.System.{texts}
+use Rattle.tai_status.specs.Words.{texts}
 use Rattle.cmd_envdir.proofs.script.push_words.Given as goal
 
 -- the words so far are added

@@ -1,4 +1,4 @@
-use Rattle.cmd_envdir.specs.System.{texts}
+use Rattle.tai_status.specs.Words.{texts}
 use Rattle.cmd_envdir.proofs.Making.{if_written}
 use Rattle.cmd_envdir.proofs.script.shell_text.Goals as goal
 

@@ -1,6 +1,6 @@
 use Rattle.std.proofs.Common.{◌++◌, ap, ◌∙◌}
 use Rattle.std.specs.Prelude.{flat_map}
-use Rattle.cmd_envdir.specs.System.{texts}
+use Rattle.tai_status.specs.Words.{texts}
 use Rattle.cmd_envdir.specs.Quoting.{lines_text, removed_text, set_text}
 use Rattle.cmd_envdir.proofs.Making.{in_order}
 use Rattle.cmd_envdir.proofs.script.text_of.Goals as goal

@@ -1,5 +1,5 @@
 use Rattle.std.proofs.Common.{rules, ◌≡◌, ◌++◌, ℕ, List, [], map}
-use Rattle.cmd_svc.specs.Words.{texts}
+use Rattle.tai_status.specs.Words.{texts}
 use Rattle.cmd_page.specs.Escape.{escaped}
 use Rattle.cmd_page.specs.Page.{end_text, head_text, heading_text}
 use Rattle.cmd_page.specs.PageEnds.{Draws, DrawsNone}

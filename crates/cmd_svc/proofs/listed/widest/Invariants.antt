@@ -1,5 +1,5 @@
 use Rattle.std.proofs.Common.{◌≡◌, drop}
-use Rattle.cmd_svc.specs.Words.{texts}
+use Rattle.tai_status.specs.Words.{texts}
 use Rattle.cmd_svc.specs.Listed.{widest}
 use Rattle.cmd_svc.proofs.listed.widest.Given as goal
 

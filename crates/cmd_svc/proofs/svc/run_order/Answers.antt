@@ -1,6 +1,7 @@
 use Rattle.std.proofs.Common.{rules, ◌≡◌, ℕ, List, ◌⊎◌, inl, inr, refl, subst, false}
 use Rattle.std.specs.Prelude.{codes}
-use Rattle.cmd_svc.specs.Words.{texts, option_letters, first_unknown}
+use Rattle.cmd_svc.specs.Words.{option_letters, first_unknown}
+use Rattle.tai_status.specs.Words.{texts}
 use Rattle.cmd_svc.specs.Words.{order_bytes, service_words}
 use Rattle.cmd_svc.specs.Missing.{TellsEach, telling}
 use Rattle.svc_client.specs.Turns.{InTurn}

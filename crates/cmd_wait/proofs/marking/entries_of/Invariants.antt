@@ -1,5 +1,5 @@
 use Rattle.std.proofs.Common.{◌≡◌, take}
-use Rattle.cmd_svc.specs.Words.{texts}
+use Rattle.tai_status.specs.Words.{texts}
 use Rattle.cmd_wait.specs.Finding.{awaited, unmarked}
 use Rattle.cmd_wait.proofs.marking.entries_of.Given as goal
 

@@ -1,5 +1,5 @@
 use Rattle.std.proofs.Common.{rules, ◌≡◌, ℕ, Bool, true, false, List, refl, subst, inl, inr}
-use Rattle.cmd_svc.specs.Words.{texts}
+use Rattle.tai_status.specs.Words.{texts}
 use Rattle.cmd_svc.specs.Svc.{Serves, sending}
 use Rattle.svc_client.specs.Turns.{InTurn}
 use Rattle.cmd_wait.specs.Steps.{sight}

@@ -1,5 +1,5 @@
 use Rattle.std.proofs.Common.{◌≡◌, ℕ, List, refl, subst, inl, inr}
-use Rattle.cmd_svc.specs.Words.{texts}
+use Rattle.tai_status.specs.Words.{texts}
 use Rattle.cmd_wait.specs.Finding.{awaited, entry_folders}
 use Rattle.cmd_wait.specs.Marking.{MarksEach, MarksNot}
 use Rattle.cmd_wait.specs.declared.marking.Purpose.TheVariants.{Waits}

@@ -1,5 +1,5 @@
 use Rattle.std.proofs.Common.{refl, inl, inr}
-use Rattle.cmd_svc.specs.Words.{texts}
+use Rattle.tai_status.specs.Words.{texts}
 use Rattle.cmd_wait.specs.Words.{order}
 use Rattle.cmd_wait.proofs.wait.run_wait.Goals as goal
 
