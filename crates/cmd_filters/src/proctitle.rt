@@ -42,10 +42,15 @@ fn read_title<A: Allocator + Clone, D: Read>(
     len: usize,
     reader: &mut Input<D>,
 ) -> Result<Title<A>, ProctitleFault>
+    // If it succeeds, the title shows all bytes of the reader, and no fault is counted.
     ensures ok { IfOk result (λ title. ShowsRead len reader.old reader.new title) }
     ensures end { OnOk result (IsRead reader.new × Works reader.old reader.new) }
+
+    // It returns `TooShort` exactly for a title under 5 bytes, and then reads nothing.
     ensures short { IsErrOf result ProctitleFault.TooShort ↔ (len < 5) }
     ensures unread { IsErrOf result ProctitleFault.TooShort → reader.new ≡ reader.old }
+
+    // After `Read` the fault of the reader is counted. `Write` is never returned.
     ensures fault { IsErrOf result ProctitleFault.Read → Fails reader.old reader.new }
     ensures neither { IfErr result (λ why. why ≢ ProctitleFault.Write) }
 {
@@ -67,10 +72,15 @@ fn write_title<A: Allocator + Clone, W: Write>(
     title: &Title<A>,
     writer: &mut Output<W>,
 ) -> Result<(), ProctitleFault>
+    // If it succeeds, the title and a newline are written. After `OutOfMemory` nothing is written, and after `Write` a
+    // prefix of them is.
     ensures ok { OnOk result (Wrote writer.old writer.new (title_text title.now ++ 10 ∷ [])) }
     ensures memory { IsErrOf result ProctitleFault.OutOfMemory → writer.new ≡ writer.old }
     ensures front { IsErrOf result ProctitleFault.Write
         → WroteFront writer.old writer.new (title_text title.now ++ 10 ∷ []) }
+
+    // After `Write` the fault of the writer is counted. If it succeeds, none is. `TooShort` and `Read` are never
+    // returned.
     ensures fault { IsErrOf result ProctitleFault.Write → Fails writer.old writer.new }
     ensures works { OnOk result (Works writer.old writer.new) }
     ensures neither { IfErr result (λ why. (why ≢ ProctitleFault.TooShort) × (why ≢ ProctitleFault.Read)) }

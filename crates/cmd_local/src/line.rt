@@ -217,11 +217,18 @@ pub fn put_line<Z: Zone, W: Write>(
     writer: &mut Output<W>,
 ) -> Result<(), DeviceFault>
     requires { last.old.text ≡ local_text (Z.ahead_at zone.now) last.old.sec }
+
+    // In each outcome the last time is the local time of its second.
     ensures kept { last.new.text ≡ local_text (Z.ahead_at zone.now) last.new.sec }
+
+    // If it succeeds, what becomes of the line comes after the bytes that were pending, and some of all these may be
+    // written. If it fails, a prefix of all these is written.
     ensures ok { OnOk result
         (Puts writer.old writer.new block.old block.new (localised_line (Z.ahead_at zone.now) line.now)) }
     ensures err { OnErr result
         (WroteFront writer.old writer.new (block.old ++ localised_line (Z.ahead_at zone.now) line.now)) }
+
+    // If it succeeds, no fault is counted. If it fails, the fault is.
     ensures faults { OnOk result (Works writer.old writer.new) }
     ensures fault { OnErr result (Fails writer.old writer.new) }
 {
@@ -270,11 +277,18 @@ fn put_part<Z: Zone, W: Write>(
     writer: &mut Output<W>,
 ) -> Result<(), DeviceFault>
     requires { last.old.text ≡ local_text (Z.ahead_at zone.now) last.old.sec }
+
+    // In each outcome the last time is the local time of its second.
     ensures kept { last.new.text ≡ local_text (Z.ahead_at zone.now) last.new.sec }
+
+    // If it succeeds, what becomes of the bytes comes after those that were pending, and some of all these may be
+    // written. If it fails, a prefix of all these is written. Inside a line the bytes are unchanged.
     ensures ok { OnOk result
         (Puts writer.old writer.new block.old block.new (passed_part (Z.ahead_at zone.now) inside part.now)) }
     ensures err { OnErr result
         (WroteFront writer.old writer.new (block.old ++ passed_part (Z.ahead_at zone.now) inside part.now)) }
+
+    // If it succeeds, no fault is counted. If it fails, the fault is.
     ensures faults { OnOk result (Works writer.old writer.new) }
     ensures fault { OnErr result (Fails writer.old writer.new) }
 {
@@ -296,11 +310,19 @@ pub fn put_lines<Z: Zone, W: Write>(
     writer: &mut Output<W>,
 ) -> Result<usize, DeviceFault>
     requires { last.old.text ≡ local_text (Z.ahead_at zone.now) last.old.sec }
+
+    // In each outcome the last time is the local time of its second.
     ensures kept { last.new.text ≡ local_text (Z.ahead_at zone.now) last.new.sec }
+
+    // If it succeeds, the bytes from the returned place on are held. They are none, or at most 25 that begin a line.
+    // Whatever comes after them, what becomes of all bytes begins with what was put.
     ensures ok { IfOk result (λ at. PassesUpTo at (Z.ahead_at zone.now) inside.old bytes.now inside.new
         writer.old writer.new block.old block.new) }
     ensures held { IfOk result (λ at. IsHeld inside.new (drop at bytes.now)) }
     ensures within { IfOk result (λ at. (at ≤ length bytes.now) × (length bytes.now ≤ at + 25)) }
+
+    // If it fails, a prefix of the bytes that were pending and of what becomes of all bytes is written, and the fault
+    // is counted. If it succeeds, none is counted.
     ensures err { OnErr result
         (WroteFront writer.old writer.new (block.old ++ passed (Z.ahead_at zone.now) inside.old bytes.now)) }
     ensures faults { OnOk result (Works writer.old writer.new) }

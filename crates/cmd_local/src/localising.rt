@@ -38,10 +38,15 @@ fn read_behind<D: Read>(
     reader: &mut Input<D>,
 ) -> Result<usize, DeviceFault>
     requires { at < length bytes.old }
+
+    // The bytes before the place stay. If it succeeds, those that the reader gave come there. If none came, the reader
+    // has no more bytes.
     ensures front { take at bytes.new ≡ take at bytes.old }
     ensures bound { IfOk result (λ count. at + count ≤ length bytes.old) }
     ensures bytes { IfOk result (λ count. Gives reader.old reader.new (slice_range bytes.new at (at + count))) }
     ensures end { IfOk result (λ count. count ≡ 0 → IsRead reader.new) }
+
+    // If it fails, no byte is read, and the fault is counted. If it succeeds, the reads are counted, and no fault is.
     ensures kept { OnErr result (GivesNothing reader.old reader.new) }
     ensures read { OnErr result (Fails reader.old reader.new) }
     ensures reads { OnOk result (CountsRead reader.old reader.new) }
@@ -60,11 +65,19 @@ fn write_lines<Z: Zone, W: Write>(
     writer: &mut Output<W>,
 ) -> Result<usize, DeviceFault>
     requires { last.old.text ≡ local_text (Z.ahead_at zone.now) last.old.sec }
+
+    // In each outcome the last time is the local time of its second.
     ensures kept { last.new.text ≡ local_text (Z.ahead_at zone.now) last.new.sec }
+
+    // If it succeeds, the bytes from the returned place on are held. They are none, or at most 25 that begin a line.
+    // Whatever comes after them, what becomes of all bytes begins with what was written.
     ensures ok { IfOk result (λ at. Moves (Z.ahead_at zone.now) inside.old bytes.now inside.new (drop at bytes.now)
         writer.old writer.new) }
     ensures held { IfOk result (λ at. IsHeld inside.new (drop at bytes.now)) }
     ensures within { IfOk result (λ at. (at ≤ length bytes.now) × (length bytes.now ≤ at + 25)) }
+
+    // If it fails, a prefix of what becomes of all bytes is written, and the fault is counted. If it succeeds, none is
+    // counted.
     ensures err { OnErr result
         (WroteFront writer.old writer.new (passed (Z.ahead_at zone.now) inside.old bytes.now)) }
     ensures faults { OnOk result (Works writer.old writer.new) }

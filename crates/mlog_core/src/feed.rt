@@ -128,10 +128,15 @@ fn read_alike<A: Allocator + Clone, B: Allocator + Clone, C: TimeSource>(
 ) -> Lines
     requires fits { Fits router.old.chosen script.now }
     requires bare { 0 < length bytes.now → IsBare script.now }
+
+    // It takes whole lines. Each goes unchanged to all logs or to none, as the reach says. The clock was read once for
+    // each.
     ensures within { result.len ≤ length bytes.now }
     ensures count { result.count ≤ result.len }
     ensures alike { AreAlike script.now result.reach (C.readings clock.old) (C.readings clock.new)
         (take result.len bytes.now) result.count }
+
+    // The ends of the logs stay. The flags of the router fit the script, as before.
     ensures tails { router.new.tails ≡ router.old.tails }
     ensures fits { Fits router.new.chosen script.now }
 {

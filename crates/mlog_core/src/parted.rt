@@ -17,12 +17,18 @@ pub trait PartedInput {
     /// Reads once from the part, as [`Input::read`] does. No byte comes only at the part's end, or with an empty
     /// buffer.
     fn read_part(&mut self, into: &mut [u8]) -> Result<usize, DeviceFault>
+        // The front of the buffer has the bytes that the part gave. After a fault it gave none.
         ensures bound { IfOk result (λ count. count ≤ length into.new) }
         ensures bytes { ReadConsumes (feed self.old).device.bytes (feed self.new).device.bytes result into.new }
+
+        // If it succeeds, the reads are counted, and no fault is. If it fails, the fault is counted, and its cause is
+        // kept.
         ensures reads { OnOk result (CountsRead (feed self.old).device (feed self.new).device) }
         ensures faults { OnOk result (Works (feed self.old).device (feed self.new).device) }
         ensures fault { OnErr result (Fails (feed self.old).device (feed self.new).device) }
         ensures why { OnErr result (IsSome (feed self.new).device.cause) }
+
+        // In each outcome the later parts stay.
         ensures behind { (feed self.new).behind ≡ (feed self.old).behind };
 
     /// Returns the cause of the last fault.

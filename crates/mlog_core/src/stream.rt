@@ -65,11 +65,18 @@ pub fn run<A: Allocator + Clone, B: Allocator + Clone, D: Read, S: LogStore, C: 
     // The store has the logs and status files of the script.
     requires logs { count_by is_log script.now ≤ (S.state store.old).logs }
     requires files { count_by is_file script.now ≤ (S.state store.old).status_files }
+
+    // The outcome decides what was handed out. If it succeeds, this is the whole input, and no fault of the reader is
+    // counted.
     ensures runs { RunsTo result script.now reader.old reader.new
         S.state store.old store.new C.readings clock.old clock.new }
     ensures end { OnOk result (IsRead reader.new) }
     ensures works { OnOk result (Works reader.old reader.new) }
+
+    // In each outcome the store keeps its numbers of logs and status files, and asks the system for no folder.
     ensures stays { Stays (S.state store.old) (S.state store.new) }
+
+    // After `Read` the fault of the reader is counted, and after `Store` that of the store.
     ensures unread { IsErrOf result RunFault.Read → Fails reader.old reader.new }
     ensures unwritten { IsErrOf result RunFault.Store
         → Rose (S.state store.old).failures (S.state store.new).failures }
@@ -93,13 +100,21 @@ where
     C: TimeSource,
     requires logs { count_by is_log script.now ≤ (S.state store.old).logs }
     requires files { count_by is_file script.now ≤ (S.state store.old).status_files }
+
+    // The outcome decides what was handed out. If it succeeds, this is the whole part. The reads are counted, and no
+    // fault of the reader is.
     ensures runs { PartRuns result script.now I.feed input.old input.new
         S.state store.old store.new C.readings clock.old clock.new }
     ensures end { OnOk result (IsRead (I.feed input.new).device) }
     ensures works { OnOk result (Works (I.feed input.old).device (I.feed input.new).device) }
     ensures reads { OnOk result (CountsRead (I.feed input.old).device (I.feed input.new).device) }
+
+    // In each outcome the later parts stay. The store keeps its numbers of logs and status files, and asks the system
+    // for no folder.
     ensures stays { Stays (S.state store.old) (S.state store.new) }
     ensures behind { (I.feed input.new).behind ≡ (I.feed input.old).behind }
+
+    // After `Read` the fault of the reader is counted, and after `Store` that of the store.
     ensures unread { IsErrOf result RunFault.Read → Fails (I.feed input.old).device (I.feed input.new).device }
     ensures unwritten { IsErrOf result RunFault.Store
         → Rose (S.state store.old).failures (S.state store.new).failures }
@@ -147,14 +162,23 @@ where
     C: TimeSource,
     requires serves { Serves script.now router.old (S.state store.old) }
     requires written { IsWritten router.old.tails }
+
+    // The outcome decides what was handed out. If it succeeds, this is the whole part, and no byte waits. The reads are
+    // counted, and no fault of the reader is.
     ensures runs { RunsOf result script.now router.old router.new
         S.state store.old store.new C.readings clock.old clock.new I.feed input.old input.new }
     ensures written { OnOk result (IsWritten router.new.tails) }
     ensures end { OnOk result (IsRead (I.feed input.new).device) }
     ensures works { OnOk result (Works (I.feed input.old).device (I.feed input.new).device) }
     ensures reads { OnOk result (CountsRead (I.feed input.old).device (I.feed input.new).device) }
+
+    // In each outcome the later parts stay. The store keeps its numbers of logs and status files, and asks the system
+    // for no folder.
     ensures stays { Stays (S.state store.old) (S.state store.new) }
     ensures behind { (I.feed input.new).behind ≡ (I.feed input.old).behind }
+
+    // After `Read` the fault of the reader is counted. Memory is never the reason, since the router already has all
+    // that it needs.
     ensures unread { IsErrOf result RunFault.Read → Fails (I.feed input.old).device (I.feed input.new).device }
     ensures memory { ¬ (IsErrOf result RunFault.OutOfMemory) }
 {

@@ -16,12 +16,17 @@ pub struct Cut {
 
 /// Returns the first cut in bytes that come after `standing` earlier ones.
 pub fn first_cut(size: usize, standing: usize, bytes: &[u8]) -> Cut
+    // The size is at least the slack. The file has not reached it yet, and at least one byte comes.
     requires size { 2000 ≤ size }
     requires room { standing < size }
     requires some { 0 < length bytes.now }
+
+    // The cut takes at least one byte, and no more than there are or than the size allows.
     ensures some { 0 < result.len }
     ensures within { result.len ≤ length bytes.now }
     ensures upto { standing + result.len ≤ size }
+
+    // The file is full at no earlier place. If it is not full at the cut either, the cut takes all bytes.
     ensures open_before { (k : ℕ) → 0 < k → k < result.len
         → fills size (standing + k) (slice_index bytes.now (k - 1) == 10) ≡ false }
     ensures full { result.is_full ≡ fills size (standing + result.len) (slice_index bytes.now (result.len - 1) == 10) }

@@ -109,9 +109,12 @@ impl Tail {
 
     /// Returns the end of a log as the store has it.
     pub fn open<S: LogStore>(store: &S, log: usize, size: usize, keep: u64) -> Tail
+        // The store has this log. Its files may have at least 2000 bytes, and it keeps at least 2 old files.
         requires log { log < (S.state store.now).logs }
         requires size { 2000 ≤ size }
         requires keep { 2 ≤ keep }
+
+        // The log has these limits, and no byte waits. If its files are visible, its state is what they show.
         ensures limits { (size_of result ≡ size) × (keep_of result ≡ keep) }
         ensures waiting { waiting_in result ≡ [] }
         ensures found { IfSome ((S.state store.now).visible.files log) (λ files. standing result ≡ found files) }
@@ -150,11 +153,17 @@ impl Tail {
         label: Label,
     ) -> Result<(), StoreFault>
         requires { log < (S.state store.old).logs }
+
+        // If it succeeds, the log went through the steps of this finish, and its state is the one after them.
         ensures ok { OnOk result (Does (S.state store.old) (S.state store.new) log
             (finish_steps self.old.keep (marks_at self.old) label)) }
         ensures stands { OnOk result (standing self.new ≡ begun self.old.keep (marks_at self.old) label) }
+
+        // In each outcome the bytes that wait stay, and so do the limits.
         ensures waiting { self.new.waiting ≡ self.old.waiting }
         ensures same { SameLimits self.old self.new }
+
+        // If it fails, the log went through a prefix of these steps, and the failure of the store is counted.
         ensures err { OnErr result (Fails (S.state store.old) (S.state store.new) log
             (finish_steps self.old.keep (marks_at self.old) label)) }
     {
@@ -179,11 +188,17 @@ impl Tail {
         reading: &Label,
     ) -> Result<(), LogFault>
         requires { log < (S.state store.old).logs }
+
+        // If it succeeds, there was a label, and the bytes that waited are in the file that is finished. A new file
+        // begins.
         ensures ok { OnOk result (Does (S.state store.old) (S.state store.new) log
             (steps_to_finish self.old reading.now)) }
         ensures stands { OnOk result
             (finished_at self.old.keep (marks_at self.old) reading.now ≡ Some (standing self.new)) }
         ensures empty { OnOk result (self.new.waiting ≡ []) }
+
+        // The limits stay. If it fails, the log went through a prefix of the steps. If there is no label, these are all
+        // steps before the finish.
         ensures same { SameLimits self.old self.new }
         ensures stopped { IfErr result (λ why.
             FinishesUpTo (S.state store.old) (S.state store.new) log self.old reading.now why) }
@@ -211,11 +226,17 @@ impl Tail {
     ) -> Result<(), LogFault>
         requires log { log < (S.state store.old).logs }
         requires written { waiting_in self.old ≡ [] }
+
+        // If it succeeds, the log went through the steps of a rotation, which are none for an empty file. No byte
+        // waits.
         ensures done { OnOk result (Does (S.state store.old) (S.state store.new) log
             (rotate_steps (keep_of self.old) (standing self.old) reading.now)) }
         ensures stands { OnOk result
             (rotated (keep_of self.old) (standing self.old) reading.now ≡ Some (standing self.new)) }
         ensures written { OnOk result (waiting_in self.new ≡ []) }
+
+        // The limits stay. If it fails, the log went through a prefix of the steps. If there is no label, it went
+        // through none.
         ensures same { SameLimits self.old self.new }
         ensures stopped { IfErr result (λ why.
             RotatesUpTo (S.state store.old) (S.state store.new) log self.old reading.now why) }
@@ -234,12 +255,19 @@ impl Tail {
         reading: &Label,
         bytes: &[u8],
     ) -> Result<usize, LogFault>
+        // The store has this log. Its current file has room, and at least one byte comes.
         requires log { log < (S.state store.old).logs }
         requires room { self.old.count < self.old.size }
         requires some { 0 < length bytes.now }
+
+        // If it succeeds, it took at least one byte. The log went through the steps of what it took, except for the
+        // bytes that wait.
         ensures taken { IfOk result (λ taken. (0 < taken) × (taken ≤ length bytes.now)) }
         ensures puts { IfOk result (λ taken. Puts (S.state store.old) (S.state store.new) log
             self.old self.new reading.now (take taken bytes.now)) }
+
+        // The limits stay. If it fails, the log went through a prefix of the steps: for the bytes that waited, and then
+        // for all these.
         ensures same { SameLimits self.old self.new }
         ensures stopped { IfErr result (λ why.
             PutsUpTo (S.state store.old) (S.state store.new) log self.old reading.now bytes.now why) }
@@ -267,9 +295,15 @@ impl Tail {
     ) -> Result<usize, LogFault>
         requires log { log < (S.state store.old).logs }
         requires some { 0 < length bytes.now }
+
+        // If it succeeds, it took at least one byte. The log went through the steps of what it took, except for the
+        // bytes that wait.
         ensures taken { IfOk result (λ taken. (0 < taken) × (taken ≤ length bytes.now)) }
         ensures puts { IfOk result (λ taken. Puts (S.state store.old) (S.state store.new) log
             self.old self.new reading.now (take taken bytes.now)) }
+
+        // The limits stay. If it fails, the log went through a prefix of the steps: for the bytes that waited, and then
+        // for all these.
         ensures same { SameLimits self.old self.new }
         ensures stopped { IfErr result (λ why.
             PutsUpTo (S.state store.old) (S.state store.new) log self.old reading.now bytes.now why) }
@@ -326,9 +360,15 @@ impl Tail {
     ) -> Result<(), LogFault>
         requires log { log < (S.state store.old).logs }
         requires room { length bytes.now ≤ room_in self.old }
+
+        // If it succeeds, the bytes come after those that waited, and some of all these may be appended. The state
+        // counts them all.
         ensures done { OnOk result (Goes (S.state store.old) (S.state store.new) log
             (waiting_in self.old) (waiting_in self.new) (append_steps bytes.now)) }
         ensures stands { OnOk result (standing self.new ≡ longer (standing self.old) (length bytes.now)) }
+
+        // The limits stay. Only the store can fail. Then a prefix of the bytes that waited and of these is appended,
+        // and the failure is counted.
         ensures same { SameLimits self.old self.new }
         ensures stopped { OnErr result (Fails (S.state store.old) (S.state store.new) log
             (append_steps (waiting_in self.old) ++ append_steps bytes.now)) }
@@ -346,11 +386,17 @@ impl Tail {
     /// Appends the bytes that wait in memory.
     pub fn flush<S: LogStore>(&mut self, store: &mut S, log: usize) -> Result<(), LogFault>
         requires log { log < (S.state store.old).logs }
+
+        // If it succeeds, the bytes that waited are appended, and none waits.
         ensures done { OnOk result
             (Does (S.state store.old) (S.state store.new) log (append_steps (waiting_in self.old))) }
         ensures empty { OnOk result (waiting_in self.new ≡ []) }
+
+        // In each outcome the state stays, since it already counts the bytes that wait. The limits stay too.
         ensures stands { standing self.new ≡ standing self.old }
         ensures same { SameLimits self.old self.new }
+
+        // Only the store can fail. Then a prefix of the bytes that waited is appended, and the failure is counted.
         ensures stopped { OnErr result
             (Fails (S.state store.old) (S.state store.new) log (append_steps (waiting_in self.old))) }
         ensures why { IfErr result (λ why. why ≡ fault.Store) }

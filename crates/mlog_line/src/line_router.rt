@@ -257,8 +257,13 @@ impl<A: Allocator + Clone> LineRouter<A> {
     /// Returns at which logs a line is selected. The line is given without its newline.
     pub fn reach<B: Allocator + Clone>(&mut self, script: &Script<B>, line: &[u8]) -> Reach
         requires { Fits self.old.chosen script.now }
+
+        // The first 1000 bytes of the line decide the flags. If it returns `Everywhere`, those of all logs are set, and
+        // if it returns `Nowhere`, none of them is. `Somewhere` promises nothing.
         ensures chosen { self.new.chosen ≡ chosen script.now (take 1000 line.now) }
         ensures reach { Reaches result self.new.chosen.logs }
+
+        // Nothing but the flags changes, and they fit the script as before.
         ensures tails { self.new.tails ≡ self.old.tails }
         ensures same { (self.new.front ≡ self.old.front) × (self.new.decided ≡ self.old.decided) }
         ensures fits { Fits self.new.chosen script.now }

@@ -126,18 +126,24 @@ impl<A: Allocator + Clone> Marks<A> {
 
     /// Notes whether a line is selected at an action.
     fn note<B: Allocator + Clone>(&mut self, action: &Action<B>, chosen: bool)
+        // If the action sends lines, there is room for one more flag of its kind.
         requires alerts { is_alert (act action.now) ≡ true
             → length self.old.alerts.items < vec_capacity self.old.alerts }
         requires logs { is_log (act action.now) ≡ true
             → length self.old.logs.items < vec_capacity self.old.logs }
         requires files { is_file (act action.now) ≡ true
             → length self.old.files.items < vec_capacity self.old.files }
+
+        // The flags of the action's kind get one more at their end. The other flags stay, and all do if the action
+        // sends no lines.
         ensures alerts { self.new.alerts.items
             ≡ self.old.alerts.items ++ (if is_alert (act action.now) then chosen ∷ [] else []) }
         ensures logs { self.new.logs.items
             ≡ self.old.logs.items ++ (if is_log (act action.now) then chosen ∷ [] else []) }
         ensures files { self.new.files.items
             ≡ self.old.files.items ++ (if is_file (act action.now) then chosen ∷ [] else []) }
+
+        // The room for flags stays.
         ensures alert_room { vec_capacity self.new.alerts ≡ vec_capacity self.old.alerts }
         ensures log_room { vec_capacity self.new.logs ≡ vec_capacity self.old.logs }
         ensures file_room { vec_capacity self.new.files ≡ vec_capacity self.old.files }
@@ -203,11 +209,14 @@ fn mark<A: Allocator + Clone, B: Allocator + Clone>(
     front: &[u8],
     marks: &mut Marks<A>,
 )
+    // The first actions, so many, send no lines. No flag is noted yet, and there is room for the flags of all actions.
     requires quiet { AreQuiet quiet (map act actions.now) }
     requires empty { (marks.old.alerts.items ≡ []) × (marks.old.logs.items ≡ []) × (marks.old.files.items ≡ []) }
     requires alerts { count_by is_alert (map act actions.now) ≤ vec_capacity marks.old.alerts }
     requires logs { count_by is_log (map act actions.now) ≤ vec_capacity marks.old.logs }
     requires files { count_by is_file (map act actions.now) ≤ vec_capacity marks.old.files }
+
+    // There is one flag for each action that sends lines, in order, as the actions before it decide.
     ensures alerts { marks.new.alerts.items ≡ choices is_alert (map act actions.now) front.now }
     ensures logs { marks.new.logs.items ≡ choices is_log (map act actions.now) front.now }
     ensures files { marks.new.files.items ≡ choices is_file (map act actions.now) front.now }

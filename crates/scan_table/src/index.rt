@@ -60,10 +60,15 @@ pub(crate) fn slot_of<'a, A: Allocator>(
     at: &mut usize,
     row: &DirRow<A>,
 ) -> Option<&'a Slot<A>>
+    // The index has all slots, and `at` is a place in it or its end. All names before this place are smaller than the
+    // row's.
     requires index { IsIndex (names_of slots.now) index.now }
     requires whole { length index.now ≡ length slots.now }
     requires bound { at.old ≤ length index.now }
     requires passed { ArePassed (names_of slots.now) index.now at.old row.now.name }
+
+    // It finds the slot if there is one with the row's name. The search for a later row may begin at the new `at`,
+    // since all names before it are smaller than this row's.
     ensures slot { option_copied result ≡ slot_of slots.now row.now }
     ensures bound { at.new ≤ length index.now }
     ensures passed { ArePassed (names_of slots.now) index.now at.new row.now.name }
@@ -98,10 +103,13 @@ pub(crate) fn slot_named<'a, A: Allocator>(
 
 /// Adds the next slot to an index of the slots before it, which has room for it.
 fn put<A: Allocator>(slots: &[Slot<A>], index: &mut Vec<usize, A>)
+    // The index does not have all slots yet. It has room for one more, and all slots have different names.
     requires index { IsIndex (names_of slots.now) index.old.items }
     requires bound { vec_len index.old < length slots.now }
     requires room { vec_len index.old < vec_capacity index.old }
     requires distinct { AreDistinct slots.now }
+
+    // The index has one more of the slots, and not less room.
     ensures index { IsIndex (names_of slots.now) index.new.items }
     ensures len { vec_len index.new ≡ vec_len index.old + 1 }
     ensures room { vec_capacity index.old ≤ vec_capacity index.new }

@@ -105,13 +105,19 @@ fn turn<A: Allocator>(
     row: &DirRow<A>,
     is_refused: bool,
 ) -> (u64, bool)
+    // The index has all slots, and `at` is a place in it or its end. All names before this place are smaller than the
+    // row's.
     requires index { IsIndex (names_of slots.now) index.now }
     requires whole { length index.now ≡ length slots.now }
     requires at { at.old ≤ length index.now }
     requires passed { ArePassed (names_of slots.now) index.now at.old row.now.name }
+
+    // A row that is not eligible needs no number, and its name is not new. No row needs more than 3 numbers.
     ensures need { result.0 ≡ turn_need slots.now is_refused row.now }
     ensures new { result.1 ≡ is_counted slots.now row.now }
     ensures bound { result.0 ≤ 3 }
+
+    // All names of the index before the new `at` are smaller than the row's.
     ensures at { at.new ≤ length index.now }
     ensures passed { ArePassed (names_of slots.now) index.now at.new row.now.name }
 {
@@ -231,9 +237,13 @@ impl<A: Allocator + Clone> Assignments<A> {
     /// Assigns its restarts to a row that has a slot.
     fn assign_restarts(&mut self, slot: &Slot<A>) -> Result<(), AllocError>
         requires { self.old.number + length (ended_roles slot.now) < 2 ^ 64 }
+
+        // If it succeeds, each ended part of the slot restarts in a new life, which takes the next number.
         ensures restarts { OnOk result (self.new.restarts.items
             ≡ self.old.restarts.items ++ restarts_where self.old.number (Some slot.now)) }
         ensures number { OnOk result (self.new.number ≡ self.old.number + length (ended_roles slot.now)) }
+
+        // In each outcome all else stays.
         ensures slots { self.new.slots ≡ self.old.slots }
         ensures refused { self.new.refused ≡ self.old.refused }
         ensures made { self.new.made ≡ self.old.made }
@@ -246,9 +256,13 @@ impl<A: Allocator + Clone> Assignments<A> {
     /// Assigns a slot to a row with a new name.
     fn assign_slot(&mut self, alloc: &A, row: &DirRow<A>) -> Result<(), AllocError>
         requires fits { self.old.number + 1 + length (roles_of row.now) < 2 ^ 64 }
+
+        // If it succeeds, a new slot comes last. It takes the next number, and its parts take those after it.
         ensures slots { OnOk result (self.new.slots.items
             ≡ self.old.slots.items ++ new_slot self.old.number row.now ∷ []) }
         ensures number { OnOk result (self.new.number ≡ self.old.number + 1 + length (roles_of row.now)) }
+
+        // In each outcome all else stays.
         ensures restarts { self.new.restarts ≡ self.old.restarts }
         ensures refused { self.new.refused ≡ self.old.refused }
         ensures made { self.new.made ≡ self.old.made }
@@ -263,12 +277,16 @@ impl<A: Allocator + Clone> Assignments<A> {
     fn assign_new(&mut self, alloc: &A, row: &DirRow<A>, room: usize) -> Result<(), AllocError>
         requires fits { self.old.number + need_where (nat_le room self.old.made) row.now None < 2 ^ 64 }
         requires made { self.old.made + 1 < 2 ^ 64 }
+
+        // If it succeeds, there is a new slot, or the name is refused. A refused name takes no number.
         ensures slots { OnOk result (self.new.slots.items
             ≡ self.old.slots.items ++ new_slot_where (nat_le room self.old.made) self.old.number row.now) }
         ensures refused { OnOk result (self.new.refused.items
             ≡ self.old.refused.items ++ (if nat_le room self.old.made then row.now.name ∷ [] else [])) }
         ensures number { OnOk result (self.new.number
             ≡ self.old.number + need_where (nat_le room self.old.made) row.now None) }
+
+        // No part restarts. If it succeeds, the name counts as new, whether it is refused or not.
         ensures restarts { self.new.restarts ≡ self.old.restarts }
         ensures made { OnOk result (self.new.made ≡ self.old.made + 1) }
     {
@@ -291,12 +309,19 @@ impl<A: Allocator + Clone> Assignments<A> {
         row: &DirRow<A>,
         room: usize,
     ) -> Result<(), AllocError>
+        // The index has all slots, and `at` is a place in it or its end. All names before this place are smaller than
+        // the row's.
         requires index { IsIndex (names_of slots.now) index.now }
         requires whole { length index.now ≡ length slots.now }
         requires at { at.old ≤ length index.now }
         requires passed { ArePassed (names_of slots.now) index.now at.old row.now.name }
+
+        // The numbers that the row needs are left, and one more new name can be counted.
         requires fits { self.old.number + turn_need slots.now (nat_le room self.old.made) row.now < 2 ^ 64 }
         requires made { self.old.made + 1 < 2 ^ 64 }
+
+        // If it succeeds, a row with a slot restarts its ended parts. A new name gets a slot, or is refused if there
+        // are already as many new names as there is room for. A row that is not eligible gets nothing.
         ensures slots { OnOk result (self.new.slots.items
             ≡ self.old.slots.items ++ row_slots slots.now (nat_le room self.old.made) self.old.number row.now) }
         ensures restarts { OnOk result (self.new.restarts.items
@@ -306,6 +331,8 @@ impl<A: Allocator + Clone> Assignments<A> {
         ensures number { OnOk result (self.new.number
             ≡ self.old.number + turn_need slots.now (nat_le room self.old.made) row.now) }
         ensures made { OnOk result (self.new.made ≡ self.old.made + (if is_counted slots.now row.now then 1 else 0)) }
+
+        // In each outcome all names of the index before the new `at` are smaller than the row's.
         ensures at { at.new ≤ length index.now }
         ensures passed { ArePassed (names_of slots.now) index.now at.new row.now.name }
     {
@@ -328,11 +355,15 @@ fn assign_all<A: Allocator + Clone>(
     room: usize,
     next: u64,
 ) -> Result<Assignments<A>, AllocError>
+    // The index has all slots, and the names of the rows rise. The room is that of the whole scan, and there are enough
+    // numbers for all rows.
     requires index { IsIndex (names_of slots.now) index.now }
     requires whole { length index.now ≡ length slots.now }
     requires rising { AreRising rows.now }
     requires room { room ≡ Rattle.scan_table.specs.Scan.room slots.now rows.now }
     requires numbers { next + needs slots.now rows.now < 2 ^ 64 }
+
+    // If it succeeds, this is what the whole scan gives to the rows. The next number comes after all that they took.
     ensures slots { IfOk result (λ assigned. assigned.slots.items ≡ new_slots slots.now next rows.now) }
     ensures restarts { IfOk result (λ assigned. assigned.restarts.items ≡ restarts slots.now next rows.now) }
     ensures refused { IfOk result (λ assigned. assigned.refused.items ≡ refused slots.now rows.now) }
@@ -399,11 +430,16 @@ fn gather<A: Allocator + Clone>(
     room: usize,
     next: u64,
 ) -> Result<Plan<A>, AllocError>
+    // The index has all slots, and the names of the rows rise. The room is that of the whole scan, and there are enough
+    // numbers for all rows.
     requires index { IsIndex (names_of slots.now) index.now }
     requires whole { length index.now ≡ length slots.now }
     requires rising { AreRising rows.now }
     requires room { room ≡ Rattle.scan_table.specs.Scan.room slots.now rows.now }
     requires numbers { next + needs slots.now rows.now < 2 ^ 64 }
+
+    // If it succeeds, this is all that the scan does. The starts are the parts of the new slots, and the next number
+    // comes after all that the rows took.
     ensures slots { IfOk result (λ plan. plan.assigned.slots.items ≡ new_slots slots.now next rows.now) }
     ensures starts { IfOk result (λ plan. plan.starts.items ≡ starts slots.now next rows.now) }
     ensures restarts { IfOk result (λ plan. plan.assigned.restarts.items ≡ restarts slots.now next rows.now) }
@@ -459,14 +495,21 @@ pub(crate) fn plan_scan<A: Allocator + Clone>(
 ) -> Result<Plan<A>, ScanFault>
     requires index { IsIndex (names_of slots.now) index.now }
     requires whole { length index.now ≡ length slots.now }
+
+    // If it succeeds, the names of the rows rise, and there are enough numbers.
     ensures rising { OnOk result (AreRising rows.now) }
     ensures enough { OnOk result (is_exhausted slots.now next rows.now ≡ false) }
+
+    // If it succeeds, this is all that the scan does. The starts are the parts of the new slots, and the next number
+    // comes after all that the rows took.
     ensures slots { IfOk result (λ plan. plan.assigned.slots.items ≡ new_slots slots.now next rows.now) }
     ensures starts { IfOk result (λ plan. plan.starts.items ≡ starts slots.now next rows.now) }
     ensures restarts { IfOk result (λ plan. plan.assigned.restarts.items ≡ restarts slots.now next rows.now) }
     ensures drops { IfOk result (λ plan. plan.drops.items ≡ drops slots.now rows.now) }
     ensures refused { IfOk result (λ plan. plan.assigned.refused.items ≡ refused slots.now rows.now) }
     ensures number { IfOk result (λ plan. plan.assigned.number ≡ next + needs slots.now rows.now) }
+
+    // If it fails, the reason is the first that applies: the order of the rows, the numbers, the memory.
     ensures cause { IfErr result (λ fault. IsCause slots.now next rows.now fault) }
 {
     check_order(rows)?;

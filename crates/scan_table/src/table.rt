@@ -119,14 +119,21 @@ fn carry_out<A: Allocator>(
     restarts: &[PartId],
     new: Vec<Slot<A>, A>,
 ) -> Result<(), AllocError>
+    // The names of the rows rise, the numbers of the slots rise, and the index has a place for each slot. After the
+    // scan no two slots have the same name.
     requires rows { AreRising rows.now }
     requires rising { AllPairs IsBefore slots.old.items }
     requires whole { length index.old.items ≡ length slots.old.items }
     requires distinct { AreDistinct (map (renewed restarts.now) (kept slots.old.items rows.now) ++ new.items) }
+
+    // If it succeeds, the slots that stay come first, with the new lives of their parts, and then the new slots. The
+    // index has them all.
     ensures slots { OnOk result (slots.new.items
         ≡ map (renewed restarts.now) (kept slots.old.items rows.now) ++ new.items) }
     ensures index { OnOk result (IsIndex (names_of slots.new.items) index.new.items) }
     ensures whole { OnOk result (length index.new.items ≡ length slots.new.items) }
+
+    // If it fails, the slots and the index are as they were.
     ensures slots_stay { OnErr result (slots.new.items ≡ slots.old.items) }
     ensures index_stays { OnErr result (index.new.items ≡ index.old.items) }
 {
@@ -233,15 +240,23 @@ impl<A: Allocator + Clone> ScanTable<A> {
     /// is returned if fewer numbers are left than the scan needs, and `OutOfMemory` only if nothing else is wrong.
     /// After a fault the table is as it was.
     pub fn scan(&mut self, rows: &[DirRow<A>]) -> Result<ScanOut<A>, ScanFault>
+        // If it succeeds, what it returns and the new table are those of a scan of the old table.
         ensures starts { IfOk result (λ out. out.starts ≡ starts self.old.slots self.old.next rows.now) }
         ensures restarts { IfOk result (λ out. out.restarts ≡ restarts self.old.slots self.old.next rows.now) }
         ensures drops { IfOk result (λ out. out.drops ≡ drops self.old.slots rows.now) }
         ensures refused { IfOk result (λ out. out.refused ≡ refused self.old.slots rows.now) }
         ensures table { OnOk result (self.new ≡ scanned self.old rows.now) }
+
+        // This scan gave the numbers of these lives, and no scan before or after it gives them.
         ensures fresh_starts { IfOk result (λ out. AreFresh self.old.next self.new.next out.starts) }
         ensures fresh_restarts { IfOk result (λ out. AreFresh self.old.next self.new.next out.restarts) }
+
+        // If it succeeds, the names of the rows rise, and there were enough numbers.
         ensures rising { OnOk result (AreRising rows.now) }
         ensures enough { OnOk result (is_exhausted self.old.slots self.old.next rows.now ≡ false) }
+
+        // If it fails, the table is as it was. The reason is the first that applies: the order of the rows, the
+        // numbers, the memory.
         ensures unchanged { OnErr result (self.new ≡ self.old) }
         ensures cause { IfErr result (λ fault. IsCause self.old.slots self.old.next rows.now fault) }
     {

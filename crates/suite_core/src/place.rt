@@ -73,9 +73,14 @@ pub(crate) fn take_event<A: Allocator>(
     place: usize,
     event: Event,
 ) -> (StepOut<A>, bool)
+    // The parts are in order, and this one is at the place. If the event is the start of a process, the number of the
+    // process is at least 1.
     requires rising { AreRising parts.old }
     requires at { IsPartAt parts.old id place }
     requires event { IsEvent event }
+
+    // The part keeps the event if its machine takes it, and it replies in either case. The other parts stay. The flag
+    // says whether its machine is then gone.
     ensures parts { parts.new ≡ parts_after id event parts.old }
     ensures out { result.0 ∷ [] ≡ outs_at id event (trace_of parts.old id) }
     ensures ended { IfSome (trace_of parts.old id) (λ kept. result.1 ≡ has_ended (noted_if_taken kept event)) }

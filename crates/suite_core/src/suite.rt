@@ -72,9 +72,14 @@ fn take_event_in<A: Allocator>(
     place: usize,
     event: Event,
 ) -> (StepOut<A>, bool)
+    // The parts are in order, and this one is at the place. If the event is the start of a process, the number of the
+    // process is at least 1.
     requires rising { AreRising parts.old.items }
     requires at { IsPartAt parts.old.items id place }
     requires event { IsEvent event }
+
+    // The part keeps the event if its machine takes it, and it replies in either case. The other parts stay. The flag
+    // says whether its machine is then gone.
     ensures parts { parts.new.items ≡ parts_after id event parts.old.items }
     ensures out { result.0 ∷ [] ≡ outs_at id event (trace_of parts.old.items id) }
     ensures ended { IfSome (trace_of parts.old.items id)
@@ -170,9 +175,13 @@ impl<A: Allocator + Clone> Suite<A> {
         out: &mut Vec<StepOut<A>, A>,
     ) -> Result<(), StepFault>
         requires { IsEvent event }
+
+        // If it succeeds, the part is there. The suite is the one after the event, and one output is added.
         ensures ok { OnOk result (self.new ≡ suite_at self.old id event) }
         ensures outs { OnOk result (out.new.items ≡ out.old.items ++ outs_at id event (trace_of self.old.parts id)) }
         ensures taken { OnOk result (refusal_at self.old id ≡ None) }
+
+        // If it fails, nothing has changed. Memory is the reason only if the part is there.
         ensures unchanged { OnErr result ((self.new ≡ self.old) × (out.new.items ≡ out.old.items)) }
         ensures cause { IfErr result (λ why. IsCause (refusal_at self.old id) why) }
     {
@@ -191,8 +200,13 @@ impl<A: Allocator + Clone> Suite<A> {
     /// Plans what a scan that is not refused does.
     fn plan(&self, rows: &[DirRow<A>], label: Label) -> Result<Planned<A>, AllocError>
         requires rising { Scan.AreRising rows.now }
+
+        // If it succeeds, the table and the result are those of the scan.
         ensures table { IfOk result (λ plan. plan.table ≡ scanned self.now.table rows.now) }
         ensures scan { IfOk result (λ plan. plan.scan ≡ scan_out self.now.table rows.now) }
+
+        // Each part that the scan begins has a new trace. Its history begins with the `down` of its row, at the label.
+        // The list `begun` has the started parts first, and then the restarted ones.
         ensures started { IfOk result (λ plan. plan.started.items
             ≡ map (begun_part self.now.capacity label) (scan_starts self.now.table rows.now)) }
         ensures restarted { IfOk result (λ plan. plan.restarted.items
@@ -280,11 +294,18 @@ impl<A: Allocator + Clone> Suite<A> {
         out: &mut Vec<StepOut<A>, A>,
     ) -> Result<(), StepFault>
         requires { IsSuiteEvent event.now }
+
+        // If it succeeds, the event is not refused. The suite is the one after it, and its output is added.
         ensures ok { OnOk result (self.new ≡ suite_after self.old event.now) }
         ensures outs { OnOk result (out.new.items ≡ out.old.items ++ outs_of self.old event.now) }
         ensures taken { OnOk result (refusal self.old event.now ≡ None) }
+
+        // If it fails, nothing has changed. Memory is the reason only if the event is not refused.
         ensures unchanged { OnErr result ((self.new ≡ self.old) × (out.new.items ≡ out.old.items)) }
         ensures cause { IfErr result (λ why. IsCause (refusal self.old event.now) why) }
+
+        // If it succeeds, this is what it means for each part: its reply and its trace follow from its own history
+        // alone. A part that a scan begins has a history that begins with the `down` of its row.
         ensures replies { OnOk result (RepliesByOwnHistory self.old event.now out.old.items out.new.items) }
         ensures own { OnOk result (GoesByOwnEvent self.old event.now self.new) }
         ensures others { OnOk result (LeavesOthers self.old event.now self.new) }
@@ -307,10 +328,16 @@ impl<A: Allocator + Clone> Suite<A> {
         out: &mut Vec<StepOut<A>, A>,
     ) -> Result<(), SuiteFault>
         requires { All IsSuiteEvent events.now }
+
+        // The events before the place of a fault are taken, or all if it succeeds. The suite that is left refuses the
+        // event at that place, or memory is missing for it.
         ensures ran { Ran self.old self.new out.old.items out.new.items events.now (done (length events.now) result) }
         ensures place { IfErr result (λ why. why.place < length events.now) }
         ensures cause { IfErr result (λ why. (d : SuiteEvent A) →
             IsCause (refusal self.new (slice_index_or events.now why.place d)) why.fault) }
+
+        // For the events that are taken, this is what it means for each part: its replies and its trace follow from its
+        // own history alone. A part that a scan begins has a history that begins with the `down` of its row.
         ensures replies { ReplyByOwnHistory self.old events.now (done (length events.now) result) }
         ensures own { GoByOwnEvents self.old events.now (done (length events.now) result) }
         ensures others { LeaveOthers self.old events.now (done (length events.now) result) }

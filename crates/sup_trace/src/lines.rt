@@ -47,10 +47,15 @@ impl<'a> Lines<'a> {
     /// Returns the next line, without its newline. It is a fault of that line if it is missing or has no newline.
     pub fn next_line(&mut self) -> Result<&'a [u8], TraceFault>
         requires { self.old.number + length self.old.rest.now < 2 ^ 64 }
+
+        // If it succeeds, the line and its newline are cut off the text. What is left is shorter, so the numbers of all
+        // later lines fit too.
         ensures line { IfOk result (λ line. parts_of self.old.rest.now ≡ line.now ∷ parts_of self.new.rest.now) }
         ensures number { OnOk result (self.new.number ≡ self.old.number + 1) }
         ensures room { OnOk result (self.new.number + length self.new.rest.now < 2 ^ 64) }
         ensures shorter { OnOk result (length self.new.rest.now < length self.old.rest.now) }
+
+        // If it fails, the rest of the text has no newline, and the fault has the number of this line.
         ensures fault { IfErr result (λ fault. fault ≡ record { line = self.old.number; kind = kind.Line }) }
         ensures missing { OnErr result (parts_of self.old.rest.now ≡ self.old.rest.now ∷ []) }
     {

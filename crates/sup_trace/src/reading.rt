@@ -170,10 +170,16 @@ impl<A: Allocator> Reading<A> {
     /// Takes the next line after the base's. Returns whether it is the end line.
     fn take_next(&mut self, lines: &mut Lines<'_>) -> Result<bool, TraceFault>
         requires room { lines.old.number + length lines.old.rest.now < 2 ^ 64 }
+
+        // If it succeeds, the line is read and cut off the text. What is left is shorter, so the numbers of all later
+        // lines fit too.
         ensures ok { IfOk result (λ ended.
             ReadsNext lines.old lines.new (Entries self.old) (heard_of ended self.new)) }
         ensures room { OnOk result (lines.new.number + length lines.new.rest.now < 2 ^ 64) }
         ensures shorter { OnOk result (length lines.new.rest.now < length lines.old.rest.now) }
+
+        // If it fails, reading from this line on ends in this fault, unless memory is missing. Then the line is that of
+        // an entry.
         ensures fault { IfErr result (EndsInFault lines.old (Entries self.old)) }
         ensures memory { IfErr result (WantsMemory lines.old (Entries self.old)) }
     {
@@ -223,11 +229,16 @@ fn take_base(lines: &mut Lines<'_>) -> Result<(u64, Machine), TraceFault>
 /// Takes the two lines before the entries.
 fn take_opening(lines: &mut Lines<'_>) -> Result<(u64, Machine), TraceFault>
     requires { lines.old.number + length lines.old.rest.now < 2 ^ 64 }
+
+    // If it succeeds, reading on from the base gives what reading from the first line gives, and each entry has the
+    // same line in both.
     ensures ok { IfOk result (λ (folded, base).
         ReadsAlike lines.old Nothing lines.new (at_base folded base)) }
     ensures entry { IfOk result (λ (folded, base).
         KeepsEntries lines.old Nothing lines.new (at_base folded base)) }
     ensures room { OnOk result (lines.new.number + length lines.new.rest.now < 2 ^ 64) }
+
+    // If it fails, reading the text ends in this fault. Memory is never the reason, since there is no entry yet.
     ensures fault { IfErr result (λ fault.
         content_by_parts lines.old.number Nothing (parts_of lines.old.rest.now) ≡ Err fault) }
     ensures memory { IfErr result (λ fault. fault.kind ≢ kind.OutOfMemory) }

@@ -32,8 +32,12 @@ pub(crate) fn trace_text<A: Allocator>(
 ) -> Result<Vec<u8, A>, AllocError>
     requires few { length first.now + length second.now ≤ 65536 }
     requires events { AllByRecursion IsEvent (first.now ++ second.now) }
+
+    // If it succeeds, the bytes are the text of a trace with the entries of both slices.
     ensures text { IfOk result (λ bytes. bytes.items
         ≡ trace_text (content_of base.now folded (first.now ++ second.now))) }
+
+    // The base is then a possible state, its status and its label are in range, and so are the numbers of all entries.
     ensures state { OnOk result (IsState base.now) }
     ensures status { OnOk result (IsStatus base.now.status) }
     ensures until { OnOk result (IfSome base.now.until IsLabel) }

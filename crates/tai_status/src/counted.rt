@@ -127,8 +127,12 @@ impl<D: Used<Way>, Way> Counted<D, Way> {
 impl<D: Read> Counted<D, In> {
     /// Reads once, and tries again if the read was interrupted. A fault loses no byte.
     pub fn read(&mut self, into: &mut [u8]) -> Result<usize, DeviceFault>
+        // The front of the buffer has the bytes that the device gave. After a fault it gave none.
         ensures bound { IfOk result (λ count. count ≤ length into.new) }
         ensures bytes { ReadConsumes self.old.bytes self.new.bytes result into.new }
+
+        // If it succeeds, the reads are counted, and no fault is. If it fails, the fault is counted, and its cause is
+        // kept.
         ensures reads { OnOk result (CountsRead self.old self.new) }
         ensures faults { OnOk result (Works self.old self.new) }
         ensures fault { OnErr result (Fails self.old self.new) }
@@ -153,9 +157,12 @@ impl<D: Write> Counted<D, Out> {
     /// Writes a prefix of the piece, and tries again if the write was interrupted. It is a fault if the device takes no
     /// byte.
     pub fn write(&mut self, piece: &[u8]) -> Result<usize, DeviceFault>
+        // The device takes a prefix of the piece, and at least one byte if there are any. After a fault it took none.
         ensures bound { IfOk result (λ count. count ≤ length piece.now) }
         ensures some { IfOk result (λ count. 0 < length piece.now → 0 < count) }
         ensures bytes { WriteAppends self.old.bytes self.new.bytes result piece.now }
+
+        // No read is counted, and no fault if it succeeds. If it fails, the fault is counted, and its cause is kept.
         ensures reads { self.new.reads ≡ self.old.reads }
         ensures faults { OnOk result (Works self.old self.new) }
         ensures fault { OnErr result (Fails self.old self.new) }
@@ -181,8 +188,11 @@ impl<D: Write> Counted<D, Out> {
 
     /// Writes the whole piece. After a fault, a prefix of it is written.
     pub fn write_all(&mut self, piece: &[u8]) -> Result<(), DeviceFault>
+        // All of the piece is written, or a prefix of it if it fails.
         ensures ok { OnOk result (Wrote self.old self.new piece.now) }
         ensures err { OnErr result (WroteFront self.old self.new piece.now) }
+
+        // No read is counted, and no fault if it succeeds. If it fails, the fault is counted, and its cause is kept.
         ensures reads { self.new.reads ≡ self.old.reads }
         ensures faults { OnOk result (Works self.old self.new) }
         ensures fault { OnErr result (Fails self.old self.new) }

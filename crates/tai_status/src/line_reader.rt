@@ -118,14 +118,23 @@ impl<A: Allocator> LineReader<A> {
     /// end of the input. A line that is too long is reported before anything more is read. The line that was taken last
     /// is dropped.
     pub fn fill<D: Read>(&mut self, reader: &mut Input<D>) -> Result<bool, LineFault>
+        // If it succeeds, the bytes that the reader gave come after those that were pending. If it returns `false`, the
+        // reader has no more bytes.
         ensures filled { OnOk result (Fills reader.old reader.new self.old self.new) }
         ensures more { IfOk result (λ more. more ≡ true → length self.old.pending < length self.new.pending) }
         ensures end { IfOk result (λ more. more ≡ false → IsRead reader.new × (self.new.pending ≡ self.old.pending)) }
+
+        // If it fails, no byte is read, and none is lost. The bound never changes.
         ensures kept { OnErr result ((self.new.pending ≡ self.old.pending) × GivesNothing reader.old reader.new) }
         ensures bound { self.new.bound ≡ self.old.bound }
+
+        // It returns `TooLong` exactly if more bytes are pending than the bound, and then it does not use the reader.
         ensures long { IsErrOf result LineFault.TooLong ↔ (self.old.bound < length self.old.pending) }
         ensures untouched { IsErrOf result LineFault.TooLong → reader.new ≡ reader.old }
         ensures short { OnOk result (length self.old.pending ≤ self.old.bound) }
+
+        // After `Read` the fault is counted. If it succeeds, the reads are counted, no fault is, and at most a block
+        // came.
         ensures read { IsErrOf result LineFault.Read → Fails reader.old reader.new }
         ensures reads { OnOk result (CountsRead reader.old reader.new) }
         ensures block { OnOk result (length self.new.pending ≤ length self.old.pending + 32768) }
@@ -143,11 +152,19 @@ impl<A: Allocator> LineReader<A> {
     /// Moves the pending bytes to the front, and reads once into the room after them.
     fn read_more<D: Read>(&mut self, reader: &mut Input<D>) -> Result<usize, DeviceFault>
         requires { length self.old.pending ≤ self.old.bound }
+
+        // If it succeeds, the bytes that the reader gave come after those that were pending, as many as it returns. If
+        // it returns 0, the reader has no more bytes.
         ensures filled { OnOk result (Fills reader.old reader.new self.old self.new) }
         ensures grew { IfOk result (λ count. length self.new.pending ≡ length self.old.pending + count) }
         ensures end { IfOk result (λ count. count ≡ 0 → IsRead reader.new × (self.new.pending ≡ self.old.pending)) }
+
+        // If it fails, no byte is read, and none is lost. The bound never changes.
         ensures kept { OnErr result ((self.new.pending ≡ self.old.pending) × GivesNothing reader.old reader.new) }
         ensures bound { self.new.bound ≡ self.old.bound }
+
+        // If it fails, the fault is counted. If it succeeds, the reads are counted, no fault is, and at most a block
+        // came.
         ensures read { OnErr result (Fails reader.old reader.new) }
         ensures reads { OnOk result (CountsRead reader.old reader.new) }
         ensures block { OnOk result (length self.new.pending ≤ length self.old.pending + 32768) }
@@ -186,10 +203,15 @@ fn read_into<D: Read>(
 ) -> Result<usize, DeviceFault>
     requires order { at ≤ limit }
     requires within { limit ≤ length bytes.old }
+
+    // The bytes before the range stay. If it succeeds, the range begins with the bytes that the reader gave. If the
+    // range has room and none came, the reader has no more bytes.
     ensures front { take at bytes.new ≡ take at bytes.old }
     ensures bound { IfOk result (λ count. at + count ≤ limit) }
     ensures bytes { IfOk result (λ count. Gives reader.old reader.new (slice_range bytes.new at (at + count))) }
     ensures end { IfOk result (λ count. count ≡ 0 → at < limit → IsRead reader.new) }
+
+    // If it fails, no byte is read, and the fault is counted. If it succeeds, the reads are counted, and no fault is.
     ensures kept { OnErr result (GivesNothing reader.old reader.new) }
     ensures read { OnErr result (Fails reader.old reader.new) }
     ensures reads { OnOk result (CountsRead reader.old reader.new) }

@@ -71,10 +71,15 @@ fn stamp_part<E: Write, C: TimeSource>(
 ) -> Result<(), DeviceFault>
     requires some { 0 < length part.now }
     requires line { part.now ≡ take_through 10 part.now }
+
+    // If it succeeds, the stamped bytes come after those that were pending, and some of all these may be written. If it
+    // fails, a prefix of all these is written.
     ensures ok { OnOk result (StampsPartBy inside part.now C.readings clock.old clock.new
         writer.old.bytes writer.new.bytes block.old block.new) }
     ensures err { OnErr result (StampsUpToBy inside part.now C.readings clock.old clock.new
         writer.old.bytes writer.new.bytes block.old) }
+
+    // If it fails, the fault is counted. If it succeeds, none is.
     ensures fault { OnErr result (Fails writer.old writer.new) }
     ensures faults { OnOk result (Works writer.old writer.new) }
 {
@@ -94,12 +99,17 @@ fn stamp_block<E: Write, C: TimeSource>(
     clock: &mut C,
 ) -> Result<u64, DeviceFault>
     requires { block.old ≡ [] }
+
+    // If it succeeds, all stamped bytes are written, and none is pending. It returns how many lines begin in the bytes,
+    // and `inside` says whether their end is inside a line.
     ensures ok { OnOk result (StampsPartBy inside.old bytes.now C.readings clock.old clock.new
         writer.old.bytes writer.new.bytes [] []) }
     ensures inside { OnOk result (inside.new ≡ is_inside inside.old bytes.now) }
     ensures count { IfOk result (λ count. count ≡ begun inside.old bytes.now) }
     ensures lines { IfOk result (λ count. count ≤ length bytes.now) }
     ensures empty { OnOk result (block.new ≡ []) }
+
+    // If it fails, a prefix of the stamped bytes is written, and the fault is counted. If it succeeds, none is counted.
     ensures err { OnErr result (StampsUpToBy inside.old bytes.now C.readings clock.old clock.new
         writer.old.bytes writer.new.bytes []) }
     ensures fault { OnErr result (Fails writer.old writer.new) }
@@ -125,11 +135,16 @@ fn stamp_parts<E: Write, C: TimeSource>(
     writer: &mut Output<E>,
     clock: &mut C,
 ) -> Result<u64, DeviceFault>
+    // If it succeeds, the stamped bytes come after those that were pending, and some of all these may be written. It
+    // returns how many lines begin in the bytes, and `inside` says whether their end is inside a line.
     ensures ok { OnOk result (StampsPartBy inside.old bytes.now C.readings clock.old clock.new
         writer.old.bytes writer.new.bytes block.old block.new) }
     ensures inside { OnOk result (inside.new ≡ is_inside inside.old bytes.now) }
     ensures count { IfOk result (λ count. count ≡ begun inside.old bytes.now) }
     ensures lines { IfOk result (λ count. count ≤ length bytes.now) }
+
+    // If it fails, a prefix of the bytes that were pending and of the stamped bytes is written, and the fault is
+    // counted. If it succeeds, none is counted.
     ensures err { OnErr result (StampsUpToBy inside.old bytes.now C.readings clock.old clock.new
         writer.old.bytes writer.new.bytes block.old) }
     ensures fault { OnErr result (Fails writer.old writer.new) }
@@ -160,10 +175,12 @@ pub fn stamp_lines<D: Read, E: Write, C: TimeSource>(
         C.readings clock.old clock.new) }
     ensures end { OnOk result (IsRead reader.new) }
     ensures works { OnOk result (Works reader.old reader.new × Works writer.old writer.new) }
+
     // The reader failed. All lines that it gave are stamped and written.
     ensures read { IsErrOf result StampFault.Read
         → StampsAllBy reader.old reader.new writer.old writer.new C.readings clock.old clock.new }
     ensures unread { IsErrOf result StampFault.Read → Fails reader.old reader.new × Works writer.old writer.new }
+
     // The writer failed, after a prefix of the stamped text of what was read.
     ensures write { IsErrOf result StampFault.Write
         → StampsSomeBy reader.old reader.new writer.old writer.new C.readings clock.old clock.new }
