@@ -5,6 +5,7 @@
 mod clock;
 mod command;
 mod files;
+mod front;
 mod pages;
 mod reporting;
 mod status;
@@ -12,9 +13,10 @@ mod status;
 pub use clock::{SystemClock, millis_between};
 pub use command::Command;
 pub use files::FileSource;
+pub use front::{check_file, read_front};
 pub use pages::page_of;
 pub use reporting::{
     DONE, REFUSED, TROUBLE, cause_note, print_fault, push_number, report, report_device,
     report_parts, usage,
 };
-pub use status::{StatusFront, path_by_descriptor, read_status_front};
+pub use status::{StatusFront, path_by_descriptor};

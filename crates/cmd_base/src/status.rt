@@ -4,28 +4,10 @@ ghost use Rattle.cmd_base.specs.Paths.{path_by_descriptor};
 
 use crate::reporting::push_number;
 use arrayvec::{ArrayString, ArrayVec};
-use std::fs::{File, Files};
-use std::io::{Error, ErrorKind, Read};
-use std::{fs, io};
 use tai_status::STATUS_FRONT;
 
 /// The first bytes of a status file, which are enough to read it (`tai_status::decode_front`).
 pub type StatusFront = ArrayVec<u8, STATUS_FRONT>;
-
-/// Reads the first bytes of the status file at a path. If something other than a file is there, it is not opened: that
-/// could wait.
-pub fn read_status_front<R: Files<File = File>>(
-    runtime: &R,
-    path: &str,
-) -> io::Result<StatusFront> {
-    if !fs::metadata(runtime, path)?.is_file() {
-        return Err(Error::from(ErrorKind::InvalidInput));
-    }
-    let file = fs::open(runtime, path)?;
-    let mut front = StatusFront::new();
-    io::copy(&mut file.take(STATUS_FRONT as u64), &mut front)?;
-    Ok(front)
-}
 
 /// Returns the path of a name in the folder that is open under a descriptor.
 pub fn path_by_descriptor<const N: usize>(descriptor: u32, name: &str) -> ArrayString<N>

@@ -4,11 +4,11 @@ ghost use Rattle.std.specs.IoError.{error_kind};
 ghost use Rattle.svc_client.specs.Paths.{FitsAddress};
 ghost use Rattle.svc_client.specs.Connecting.{unreached_by};
 
-use crate::notice::{NOTICE_BYTES, Notice, NoticeText};
+use crate::notice::{Notice, NoticeText};
 use crate::process::{age_at, living_tick};
 use crate::services::{Services, Unreached};
 use arrayvec::ArrayString;
-use cmd_base::{StatusFront, path_by_descriptor, push_number, read_status_front};
+use cmd_base::{StatusFront, path_by_descriptor, push_number, read_front};
 use mio::net::UnixStream;
 use std::env::Env;
 use std::fs::{File, Files, Metadata};
@@ -155,21 +155,14 @@ fn notice_path(notice: Notice) -> &'static str {
     }
 }
 
-/// Reads a notice of the service in a folder. If something other than a file is there, it is not opened: that could
-/// wait.
+/// Reads a notice of the service in a folder.
 fn read_notice<R: Files<File = File> + Env>(
     runtime: &R,
     folder: &str,
     notice: Notice,
 ) -> io::Result<NoticeText> {
     let path = service_path(runtime, folder, notice_path(notice))?;
-    if !fs::metadata(runtime, path.as_str())?.is_file() {
-        return Err(Error::from(ErrorKind::InvalidInput));
-    }
-    let mut text = NoticeText::new();
-    let file = fs::open(runtime, path.as_str())?;
-    io::copy(&mut file.take(NOTICE_BYTES as u64), &mut text)?;
-    Ok(text)
+    read_front(runtime, path.as_str())
 }
 
 /// Returns when a folder was last changed, in nanoseconds since 1970. Returns None for earlier times, and after the
@@ -194,7 +187,7 @@ impl<R: Files<File = File> + Net + Env + Clock + Drop> Services for SystemServic
 
     fn read_status(&mut self, folder: &str) -> io::Result<StatusFront> {
         let path = service_path(&self.runtime, folder, "/supervise/status")?;
-        read_status_front(&self.runtime, path.as_str())
+        read_front(&self.runtime, path.as_str())
     }
 
     fn has_down(&mut self, folder: &str) -> bool {

@@ -25,8 +25,8 @@ pub trait Traces {
 impl Traces for HostRuntime {
     fn read_trace<A: Allocator>(&self, alloc: A, folder: &str) -> io::Result<Vec<u8, A>> {
         let path = service_path(self, folder, "/supervise/trace")?;
-        let about = fs::metadata(self, path.as_str())?;
-        if !about.is_file() || about.len() > TRACE_BYTES {
+        check_file(self, path.as_str())?;
+        if fs::metadata(self, path.as_str())?.len() > TRACE_BYTES {
             return Err(Error::from(ErrorKind::InvalidInput));
         }
         let mut bytes = Vec::new(alloc);

@@ -1,4 +1,3 @@
-pub mod Fronts
 pub mod Lefts
 pub mod Shells
 pub mod Seconds

@@ -13,9 +13,8 @@ use crate::patience::Patience;
 use crate::private_files::{
     FILE_MODE, make_private, make_supervise, open_lock, overwrite, remove, write_private,
 };
-use crate::processes::read_front;
 use arrayvec::{ArrayString, ArrayVec};
-use cmd_base::path_by_descriptor;
+use cmd_base::{check_file, path_by_descriptor, read_front};
 use std::fs::{File, Files, Metadata, OpenOptions, TryLockError};
 use std::io::{Error, ErrorKind};
 use std::os::fd::AsRawFd;
@@ -103,6 +102,14 @@ pub struct ServiceFolder {
     _lock: File,
 }
 
+/// Returns whether a fault says that something is there from which no text can be read.
+fn is_unfit(fault: ErrorKind) -> bool {
+    matches!(
+        fault,
+        ErrorKind::InvalidInput | ErrorKind::PermissionDenied
+    )
+}
+
 /// Returns whether somebody can execute a file with this mode.
 fn is_executable(mode: u32) -> bool {
     mode & EXECUTABLE != 0
@@ -128,7 +135,11 @@ fn is_held<R: Files<File = File>>(runtime: &R, path: &str) -> bool {
     let Ok(folder) = open_folder(runtime, path) else {
         return false;
     };
-    let Ok(lock) = fs::open(runtime, path_in(&folder, "supervise/lock").as_str()) else {
+    let path = path_in(&folder, "supervise/lock");
+    if check_file(runtime, path.as_str()).is_err() {
+        return false;
+    }
+    let Ok(lock) = fs::open(runtime, path.as_str()) else {
         return false;
     };
     match lock.try_lock() {
@@ -376,12 +387,17 @@ impl ServiceFolder {
         }
     }
 
-    /// Returns the text of the file with this name. Returns None if there is no such file.
+    /// Returns the text of the file with this name. Returns None if there is no such file. What is no file, or may not be
+    /// read, has no text.
     #[inline(never)]
     pub(crate) fn setting(&self, name: &str) -> Option<SettingText>
         requires { length name.now ≤ 23 }
     {
-        read_front::<HostRuntime, SETTING_BYTES>(&self.files, self.path(name).as_str()).ok()
+        match read_front::<HostRuntime, SETTING_BYTES>(&self.files, self.path(name).as_str()) {
+            Ok(text) => Some(text),
+            Err(fault) if is_unfit(fault.kind()) => Some(SettingText::new()),
+            Err(_) => None,
+        }
     }
 
     /// Returns why nobody can execute `run`, if that shows without an attempt.

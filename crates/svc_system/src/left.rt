@@ -7,15 +7,15 @@ ghost use Rattle.svc_system.specs.Left.{IsFoundIn, IsOfBoot, found_over, is_star
 
 use crate::folder::{FileId, ServiceFolder, is_one_file};
 use crate::neighbours::Near;
-use crate::processes::{OwnRun, path_of_process, read_front, see_all, tick_of};
-use cmd_base::read_status_front;
+use crate::processes::{OwnRun, path_of_process, see_all, tick_of};
+use cmd_base::read_front;
 use std::alloc::Global;
 use std::fs;
 use svc_record::{
     BootId, Fate, Intent, Left, Leftover, PLACE_BYTES, Place, ProcessId, find, find_any_here,
     find_leftover, first_line, read_place, read_process,
 };
-use tai_status::{Label, Loaded, Phase, decode_front};
+use tai_status::{Label, Loaded, Phase, STATUS_FRONT, decode_front};
 
 /// Returns the process that a status record names. Returns None if it names none, or if these bytes are not a record.
 fn process_in(bytes: &[u8]) -> Option<u32>
@@ -83,7 +83,7 @@ impl ServiceFolder {
     fn has_process_of(&self, file: &str) -> bool
         requires { length file.now ≤ 23 }
     {
-        let Ok(record) = read_status_front(&self.files, self.path(file).as_str()) else {
+        let Ok(record) = read_front::<HostRuntime, STATUS_FRONT>(&self.files, self.path(file).as_str()) else {
             return false;
         };
         process_in(record.as_slice()).map_or(false, |pid| self.is_running(pid))
@@ -100,7 +100,8 @@ impl ServiceFolder {
 
     /// Returns the status record, if it can be read.
     fn record(&self) -> Option<Loaded> {
-        let front = read_status_front(&self.files, self.path("supervise/status").as_str()).ok()?;
+        let path = self.path("supervise/status");
+        let front = read_front::<HostRuntime, STATUS_FRONT>(&self.files, path.as_str()).ok()?;
         decode_front(front.as_slice()).ok()
     }
 

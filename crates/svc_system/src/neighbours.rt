@@ -1,6 +1,6 @@
 //! The processes of the services in a folder, read from their places.
 use crate::folder::FileId;
-use crate::processes::{OwnRun, path_of_process, read_front};
+use crate::processes::{OwnRun, path_of_process};
 use arrayvec::ArrayVec;
 use std::alloc::{AllocError, Global};
 use std::fs::{File, Files};
@@ -148,10 +148,10 @@ fn is_open(place: Option<Place>, own: &OwnRun, session: u64) -> bool {
     }
 }
 
-// Returns whether a fault says that there is no such file.
+// Returns whether a fault says that there is no such file. Something else than a file may be there.
 fn is_absent(fault: &io::Error) -> bool {
     matches!(
         fault.kind(),
-        io::ErrorKind::NotFound | io::ErrorKind::NotADirectory
+        io::ErrorKind::NotFound | io::ErrorKind::NotADirectory | io::ErrorKind::InvalidInput
     )
 }

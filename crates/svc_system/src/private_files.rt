@@ -1,5 +1,6 @@
 //! Files and folders for the owner alone, whatever the umask is, and whatever has their name.
 use crate::access::Access;
+use crate::folder::{FileId, is_one_file};
 use std::alloc::Global;
 use std::fs::{DirBuilder, File, Files, OpenOptions, Permissions};
 use std::io::{Error, ErrorKind, Write};
@@ -58,11 +59,46 @@ pub(crate) fn make_supervise<R: Files<File = File>>(
     }
 }
 
-/// Opens a file for appending, for its owner alone. Makes the file if it is missing.
-pub(crate) fn open_lock<R: Files<File = File>>(runtime: &R, path: &str) -> io::Result<File> {
-    let mut how = OpenOptions::new();
-    how.append(true).create(true).mode(FILE_MODE);
+/// Opens the existing file at a path this way. If something other than a file is there, such as a link or a FIFO, it is
+/// not opened, or the opened file is not used: to open it could wait, and a link could lead to the file of somebody else.
+#[inline(never)]
+fn open_same<R: Files<File = File>>(
+    runtime: &R,
+    how: &OpenOptions,
+    path: &str,
+) -> io::Result<File> {
+    let there = fs::symlink_metadata(runtime, path)?;
+    if !there.is_file() {
+        return Err(Error::from(ErrorKind::InvalidInput));
+    }
     let file = how.open(runtime, path)?;
+    if is_one_file(FileId::found(Ok(there)), FileId::found(file.metadata())) {
+        Ok(file)
+    } else {
+        Err(Error::from(ErrorKind::InvalidInput))
+    }
+}
+
+/// Opens the file at a path for appending. Makes the file if it is missing. Follows no link.
+fn open_or_make<R: Files<File = File>>(runtime: &R, path: &str) -> io::Result<File> {
+    let mut how = OpenOptions::new();
+    how.append(true);
+    match open_same(runtime, &how, path) {
+        Err(fault) if fault.kind() == ErrorKind::NotFound => {}
+        opened => return opened,
+    }
+    let mut make = OpenOptions::new();
+    make.append(true).create_new(true).mode(FILE_MODE);
+    match make.open(runtime, path) {
+        // Another svscan has made it just now.
+        Err(fault) if fault.kind() == ErrorKind::AlreadyExists => open_same(runtime, &how, path),
+        made => made,
+    }
+}
+
+/// Opens a file for appending, for its owner alone. Makes the file if it is missing. Follows no link.
+pub(crate) fn open_lock<R: Files<File = File>>(runtime: &R, path: &str) -> io::Result<File> {
+    let file = open_or_make(runtime, path)?;
     file.set_permissions(Permissions::from_mode(FILE_MODE))?;
     Ok(file)
 }
@@ -98,7 +134,8 @@ pub(crate) fn write_private<R: Files<File = File>>(
     file.write_all(content)
 }
 
-/// Writes over the front of an existing file that has at least this many bytes. This takes no more room on the device.
+/// Writes over the front of an existing file that has at least this many bytes. Follows no link. This takes no more room
+/// on the device.
 #[inline(never)]
 pub(crate) fn overwrite<R: Files<File = File>>(
     runtime: &R,
@@ -108,7 +145,7 @@ pub(crate) fn overwrite<R: Files<File = File>>(
 ) -> io::Result<()> {
     let mut how = OpenOptions::new();
     how.write(true);
-    let file = how.open(runtime, path)?;
+    let file = open_same(runtime, &how, path)?;
     if file.metadata()?.len() < least {
         return Err(Error::from(ErrorKind::UnexpectedEof));
     }

@@ -1,15 +1,13 @@
 //! Processes of this system that are not children of this one.
 ghost use Rattle.std.specs.Prelude.{◌≡◌, ◌<◌, ◌≤◌, length, take, option_and_then, false, true, IfErr, IfOk, IfSome};
-ghost use Rattle.std.specs.Io.{ReadsAtMost};
-ghost use Rattle.std.specs.Io.KnownBytes.{Consumes, IsAtEnd};
 ghost use Rattle.svc_system.specs.Commands.{path_of_process};
 ghost use Rattle.svc_system.specs.Stats.{LivesSince, living_tick};
 
 use crate::folder::ShortPath;
 use crate::neighbours::Near;
 use crate::stat::Stat;
-use arrayvec::{ArrayString, ArrayVec};
-use cmd_base::push_number;
+use arrayvec::ArrayString;
+use cmd_base::{push_number, read_front};
 use std::alloc::Global;
 use std::fs::{File, Files};
 use std::io::Read;
@@ -25,39 +23,6 @@ const ESRCH: i32 = 3;
 /// The number of bytes read of a process's line: enough to reach the tick at which it began, whatever the program's
 /// name.
 const STAT_BYTES: usize = 512;
-
-/// Fills a buffer from its start with bytes from a reader, in as many reads as that takes. Returns how many bytes these
-/// were: fewer than there is room for only if the reader is at its end. After a fault the bytes read so far are lost.
-fn fill<R: Read>(reader: &mut R, buffer: &mut [u8]) -> io::Result<usize>
-    ensures bound { ReadsAtMost result buffer.new }
-    ensures given { IfOk result (λ count. Consumes (R.remaining reader.old) (R.remaining reader.new)
-        (take count buffer.new)) }
-    ensures whole { IfOk result (λ count. count < length buffer.old → IsAtEnd (R.remaining reader.new)) }
-{
-    let mut filled = 0;
-    while filled < buffer.len() {
-        let count = reader.read(&mut buffer[filled..])?;
-        if count == 0 {
-            return Ok(filled);
-        }
-        filled += count;
-    }
-    Ok(filled)
-}
-
-/// Returns the first bytes of a file.
-#[inline(never)]
-pub(crate) fn read_front<R: Files<File = File>, const N: usize>(
-    files: &R,
-    path: &str,
-) -> io::Result<ArrayVec<u8, N>> {
-    let mut file = fs::open(files, path)?;
-    let mut bytes = [0; N];
-    let count = fill(&mut file, &mut bytes)?;
-    let mut front = ArrayVec::new();
-    let _fits = front.try_extend_from_slice(&bytes[..count]);
-    Ok(front)
-}
 
 /// Returns the path of a name in the kernel's folder of a process.
 pub(crate) fn path_of_process(pid: u32, name: &str) -> ShortPath

@@ -1,8 +1,8 @@
 use Rattle.std.proofs.Common.{rules, length, ◌-◌, subst, sym}
 use Rattle.std.specs.Io.KnownBytes.{Consumes}
 use Rattle.tai_status.proofs.Stamped.{Consumes-then}
-use Rattle.svc_system.proofs.Fronts.{filled-more}
-use Rattle.svc_system.proofs.processes.fill.Goals as goal
+use Rattle.cmd_base.proofs.Fronts.{filled-more}
+use Rattle.cmd_base.proofs.front.fill.Goals as goal
 
 pub loop-filled-preserved : goal.loop-filled-preserved
 loop-filled-preserved g c =
