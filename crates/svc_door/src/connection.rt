@@ -100,8 +100,8 @@ impl<G: ByteSource> Connection<G> {
         ensures left { IsLeft result self.new }
         ensures full { result ≡ turn.Full → WasFull (sender_in sender.new) }
 
-        // The time at which the connection last gave bytes is now if it gave some or some are kept, and otherwise stays.
-        // Whether an event announces its bytes stays as it was.
+        // The time at which the connection last gave bytes is now if it gave some or some are kept, and otherwise
+        // stays. Whether an event announces its bytes stays as it was.
         ensures spoke { self.new.spoke ≡ spoke_at result (nat_lt self.old.taken self.new.taken) self.old.spoke now }
         ensures watched { self.new.watched ≡ self.old.watched }
     {

@@ -73,7 +73,8 @@ impl Part {
 
     /// Makes the registry watch both listeners.
     pub fn register(&mut self, registry: &Registry) -> io::Result<()>
-        // The part stays as it was, except for whether its listeners are watched. This is so even if it fails.
+        // Even if it fails, the part keeps its token, its number, its sender, its connection and its sockets, and is
+        // due as before.
         ensures token { self.new.token ≡ self.old.token }
         ensures number { self.new.number ≡ self.old.number }
         ensures sender { self.new.sender ≡ self.old.sender }
@@ -113,7 +114,7 @@ impl Part {
     ///
     /// A part with a connection is due at some time. If the connection that it had is over, it is due at once.
     pub fn turn<R: Wait>(&mut self, rt: &R, registry: &Registry, now: u64)
-        // A part that has a connection, or whose connection is over, does not depend on an event for its next turn.
+        // A part that has a connection, or has lost the one that it had, does not depend on an event for its next turn.
         ensures due { IsSome self.new.connection → IsSome self.new.due }
         ensures next { HasClosed self.old.connection self.new.connection
             → IsSomeAnd self.new.due (λ due. due ≤ now) }
@@ -136,7 +137,7 @@ impl Part {
 
     fn serve<R: Wait>(&mut self, rt: &R, registry: &Registry, now: u64) -> Option<u64>
         // The result is when the part is due for its connection. There is such a time as long as there is a connection,
-        // and it is now if the connection is over.
+        // and it is now if the one that there was is over.
         ensures due { IsSome self.new.connection → IsSome result }
         ensures next { HasClosed self.old.connection self.new.connection → result ≡ Some now }
 

@@ -104,7 +104,8 @@ impl Table {
         ensures open { self.new.open_slots.items ≡ self.old.open_slots.items }
         ensures ends { self.new.ends ≡ self.old.ends }
 
-        // The part stays as it was, except for whether its listeners are watched.
+        // Even if it fails, the part keeps its token, its number, its sender, its connection and its sockets, and is
+        // due as before.
         ensures token { part.new.token ≡ part.old.token }
         ensures number { part.new.number ≡ part.old.number }
         ensures sender { part.new.sender ≡ part.old.sender }
