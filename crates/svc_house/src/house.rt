@@ -236,7 +236,8 @@ impl<W: World, I: Inbox, G: Gate + Drop> House<W, I, G> {
 
     /// Returns the parts of the service, with what is pending. `facts` says what is true of them.
     pub fn take_apart(self) -> (W, I, Writer, Pending)
-        // The world with its calls, the inbox, and the writer with its events come back as they were.
+        // The inbox comes back as it was, the world with the same calls, and the writer with the same station and
+        // events.
         ensures world { W.calls result.0 ≡ self.calls }
         ensures inbox { result.1 ≡ self.inbox }
         ensures writer { (station result.2 ≡ self.station) × (published result.2 ≡ self.events) }
