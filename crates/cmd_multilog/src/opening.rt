@@ -70,11 +70,17 @@ pub(crate) fn open_all<D: LogSystem + Drop, A: Allocator + Clone, B: Allocator +
 ) -> Result<(), OpenFault>
     requires no_logs { store.old.logs ≡ [] }
     requires no_files { store.old.statuses ≡ [] }
+
+    // If it succeeds, the store has each log and each status file of the script, in order. No call to open a folder
+    // failed.
     ensures ok { OnOk result (Opens store.old store.new (folders_of script.now) (file_paths script.now)
         (folders_of script.now)) }
     ensures logs { OnOk result (count_by is_log script.now ≤ length store.new.logs) }
     ensures files { OnOk result (count_by is_file script.now ≤ length store.new.statuses) }
     ensures well { OnOk result (store.new.gave ≡ store.old.gave) }
+
+    // If it fails, the store has only those that come first. The result names the log that the system refused, or it
+    // says that memory is missing.
     ensures err { IfErr result (λ why. OpensUpTo store.old store.new script.now why) }
 {
     open_logs(store, alloc, script)?;

@@ -43,10 +43,15 @@ pub trait LoggerInput {
     /// Reads once, and again if that is interrupted. Returns no bytes only at the end of the input, or for an empty
     /// buffer.
     fn read_once(&mut self, into: &mut [u8]) -> io::Result<usize>
+        // If it succeeds, the front of the buffer has the next bytes that come. If it has none in a buffer with room,
+        // nothing more comes.
         ensures bound { ReadsAtMost result into.new }
         ensures ok { IfOk result (λ count.
             Changes (coming self.old) (coming self.new) (Reads (take count into.new))) }
         ensures end { IfOk result (λ count. count ≡ 0 → 0 < length into.new → IsOver (coming self.new)) }
+
+        // If it fails, no byte that comes is lost. The count of failed calls then rises, up to its maximum, and
+        // otherwise stays.
         ensures err { OnErr result (coming self.new ≡ coming self.old) }
         ensures works { OnOk result (failures self.new ≡ failures self.old) }
         ensures fails { OnErr result (Rose (failures self.old) (failures self.new)) };
@@ -142,12 +147,19 @@ impl<S: LoggerInput + Drop> Stoppable<S> {
 
     // Reads once, and notes whether a line is in hand after what was read.
     fn take(&mut self, into: &mut [u8]) -> io::Result<usize>
+        // If it succeeds, the front of the buffer has the next bytes that come. The last of them decides whether a line
+        // is in hand. If there are none in a buffer with room, nothing more comes.
         ensures bound { ReadsAtMost result into.new }
         ensures ok { IfOk result (λ count. Changes self.old.coming self.new.coming (Reads (take count into.new))) }
         ensures line { IfOk result (λ count. self.new.in_line ≡ is_in_line self.old.in_line (take count into.new)) }
         ensures end { IfOk result (λ count. count ≡ 0 → 0 < length into.new → IsOver self.new.coming) }
+
+        // What was heard stays. `read_part` counts the reads and the faults.
         ensures word { SameWord self.old self.new }
         ensures counts { SameCounts self.old self.new }
+
+        // If it fails, only the count of failed calls changes: it rises, up to its maximum. If it succeeds, this count
+        // stays.
         ensures err { OnErr result (self.new ≡ record self.old { failures = self.new.failures }) }
         ensures works { OnOk result (self.new.failures ≡ self.old.failures) }
         ensures fails { OnErr result (Rose self.old.failures self.new.failures) }
@@ -161,10 +173,16 @@ impl<S: LoggerInput + Drop> Stoppable<S> {
 
     // Listens, and reads. In a part in which a word was heard, reads one byte of the line in hand.
     fn read_lines(&mut self, into: &mut [u8]) -> io::Result<usize>
+        // If it succeeds, the front of the buffer has the next bytes of the part that is read. If it fails, no byte of
+        // the part is lost.
         ensures bound { ReadsAtMost result into.new }
         ensures bytes { ReadConsumes (left_in self.old) (left_in self.new) result into.new }
+
+        // The parts after this one stay the same, even if a word is heard. `read_part` counts the reads and the faults.
         ensures behind { behind_in self.new ≡ behind_in self.old }
         ensures counts { SameCounts self.old self.new }
+
+        // The count of failed calls rises if a wait or a read fails, up to its maximum, and otherwise stays.
         ensures works { OnOk result (self.new.failures ≡ self.old.failures) }
         ensures fails { OnErr result (Rose self.old.failures self.new.failures) }
     {
@@ -189,12 +207,20 @@ impl<S: LoggerInput + Drop> PartedInput for Stoppable<S> {
 
     /// Reads once from the part, as the trait says. If a call of its input failed, returns neither bytes nor an end.
     fn read_part(&mut self, into: &mut [u8]) -> Result<usize, DeviceFault>
+        // If it succeeds, the front of the buffer has the next bytes of the part. If it fails, no byte of the part is
+        // lost.
         ensures bound { IfOk result (λ count. count ≤ length into.new) }
         ensures bytes { ReadConsumes (feed_of self.old).device.bytes (feed_of self.new).device.bytes result into.new }
+
+        // If it succeeds, it counts as a read, and not as a fault. There are at most 2^48 reads.
         ensures reads { OnOk result (CountsRead (feed_of self.old).device (feed_of self.new).device) }
         ensures faults { OnOk result (Works (feed_of self.old).device (feed_of self.new).device) }
+
+        // If it fails, the count of faults rises, up to its maximum, and there is a cause.
         ensures fault { OnErr result (Fails (feed_of self.old).device (feed_of self.new).device) }
         ensures why { OnErr result (IsSome (feed_of self.new).device.cause) }
+
+        // The parts after this one stay the same. If it succeeds, no call of the input failed.
         ensures behind { (feed_of self.new).behind ≡ (feed_of self.old).behind }
         ensures works { OnOk result (self.new.failures ≡ self.old.failures) }
     {

@@ -80,9 +80,13 @@ impl<D: LogSystem + Drop, A: Allocator + Clone> FolderStore<D, A> {
 
     /// Makes a store over a system.
     pub fn new(system: D, alloc: A) -> Result<FolderStore<D, A>, AllocError>
+        // If there is memory, the store begins without logs, status files and failed calls.
         ensures logs { IfOk result (λ store. store.logs ≡ []) }
         ensures statuses { IfOk result (λ store. store.statuses ≡ []) }
         ensures failures { IfOk result (λ store. store.failures ≡ 0) }
+
+        // It continues what the system has: the folders that it was asked for, the errors of these calls, and the
+        // alerts.
         ensures asked { IfOk result (λ store. store.asked ≡ D.asked system) }
         ensures gave { IfOk result (λ store. store.gave ≡ D.gave system) }
         ensures alerts { IfOk result (λ store. store.alerts ≡ D.alerts system) }
@@ -100,9 +104,13 @@ impl<D: LogSystem + Drop, A: Allocator + Clone> FolderStore<D, A> {
     /// Opens the log in the folder at a path, as the next one: makes the folder if it is missing, locks it, opens its
     /// current file and lists it. Returns a lack of memory only if no call of the system failed otherwise.
     pub(crate) fn open_log(&mut self, alloc: &A, path: &[u8]) -> io::Result<()>
+        // If it succeeds, the log is the last one of the store, and no call to open its folder failed.
         ensures ok { OnOk result (OpensLog self.old self.new path.now) }
         ensures fits { OnOk result (length self.new.logs < 2 ^ 64) }
         ensures well { OnOk result (self.new.gave ≡ self.old.gave) }
+
+        // If it fails, the store has the same logs. Either the system was asked for this folder, or memory was missing
+        // before that. The error is the only one that a call returned, or it is a lack of memory and no call failed.
         ensures err { OnErr result (AddsNone self.old self.new) }
         ensures asked { IfErr result (λ error. AsksFor error self.old self.new path.now) }
         ensures why { IfErr result (λ error. IsCause error self.old.gave self.new.gave) }
@@ -143,9 +151,12 @@ impl<D: LogSystem + Drop, A: Allocator + Clone> FolderStore<D, A> {
 
     // Counts a failed call, and keeps which one it is, and why it failed.
     fn fail(&mut self, call: StoreCall, error: &Error) -> StoreFault
+        // This call is the last one that failed. The count of failures rises, up to its maximum.
         ensures last { self.new.last ≡ Some (trouble_of call error.now) }
         ensures rose { Rose self.old.failures self.new.failures }
         ensures steady { self.old.failures ≤ self.new.failures }
+
+        // What the store holds, and what the system was asked for, stays as it was.
         ensures logs { self.new.logs ≡ self.old.logs }
         ensures statuses { self.new.statuses ≡ self.old.statuses }
         ensures alerts { self.new.alerts ≡ self.old.alerts }

@@ -66,12 +66,17 @@ impl<A: Allocator + Clone + Copy> Session<A> {
 
     /// Writes the answers that wait.
     fn flush<W: Write>(&mut self, writer: &mut Output<W>) -> Result<(), SimFault>
+        // If it succeeds, all that waited is written, and nothing waits.
         ensures ok { OnOk result (Wrote writer.old writer.new self.old.waiting) }
         ensures waiting { OnOk result (self.new.waiting ≡ []) }
+
+        // If it fails, the writer failed after a prefix of what waited. If it succeeds, no call of the writer failed.
         ensures err { OnErr result (WroteFront writer.old writer.new self.old.waiting) }
         ensures why { IfErr result (λ fault. fault ≡ SimFault.Write) }
         ensures fault { OnErr result (Fails writer.old writer.new) }
         ensures faults { OnOk result (Works writer.old writer.new) }
+
+        // What the lines so far said, and how many there were, stays as it was.
         ensures subject { self.new.subject ≡ self.old.subject }
         ensures count { self.new.count ≡ self.old.count }
     {
@@ -83,11 +88,16 @@ impl<A: Allocator + Clone + Copy> Session<A> {
 
     /// Adds an answer after those that wait.
     fn put<W: Write>(&mut self, text: &[u8], writer: &mut Output<W>) -> Result<(), SimFault>
+        // If it succeeds, the answer and a newline come after what waited. Some of these bytes may be written already.
         ensures ok { OnOk result (Puts writer.old writer.new self.old.waiting self.new.waiting (text.now ++ 10 ∷ [])) }
+
+        // If it fails, the writer failed after a prefix of these bytes. If it succeeds, no call of the writer failed.
         ensures err { OnErr result (WroteFront writer.old writer.new (self.old.waiting ++ (text.now ++ 10 ∷ []))) }
         ensures why { IfErr result (λ fault. fault ≡ SimFault.Write) }
         ensures fault { OnErr result (Fails writer.old writer.new) }
         ensures faults { OnOk result (Works writer.old writer.new) }
+
+        // What the lines so far said, and how many there were, stays as it was.
         ensures subject { self.new.subject ≡ self.old.subject }
         ensures count { self.new.count ≡ self.old.count }
     {
@@ -103,13 +113,19 @@ impl<A: Allocator + Clone + Copy> Session<A> {
         answer: &Answer<A>,
         writer: &mut Output<W>,
     ) -> Result<(), SimFault>
+        // If it succeeds, each line of the answer, with a newline, comes after what waited. Some of these bytes may be
+        // written already.
         ensures ok { OnOk result
             (Puts writer.old writer.new self.old.waiting self.new.waiting (printed (texts_in answer.now))) }
+
+        // If it fails, the writer failed after a prefix of these bytes. If it succeeds, no call of the writer failed.
         ensures err { OnErr result
             (WroteFront writer.old writer.new (self.old.waiting ++ printed (texts_in answer.now))) }
         ensures why { IfErr result (λ fault. fault ≡ SimFault.Write) }
         ensures fault { OnErr result (Fails writer.old writer.new) }
         ensures faults { OnOk result (Works writer.old writer.new) }
+
+        // What the lines so far said, and how many there were, stays as it was.
         ensures subject { self.new.subject ≡ self.old.subject }
         ensures count { self.new.count ≡ self.old.count }
     {
@@ -125,13 +141,19 @@ impl<A: Allocator + Clone + Copy> Session<A> {
         lines: &[String<A>],
         writer: &mut Output<W>,
     ) -> Result<(), SimFault>
+        // If it succeeds, each of the lines, with a newline, comes after what waited. Some of these bytes may be
+        // written already.
         ensures ok { OnOk result (Puts writer.old writer.new self.old.waiting self.new.waiting
             (printed (map (λ line. string_bytes line) lines.now))) }
+
+        // If it fails, the writer failed after a prefix of these bytes. If it succeeds, no call of the writer failed.
         ensures err { OnErr result (WroteFront writer.old writer.new
             (self.old.waiting ++ printed (map (λ line. string_bytes line) lines.now))) }
         ensures why { IfErr result (λ fault. fault ≡ SimFault.Write) }
         ensures fault { OnErr result (Fails writer.old writer.new) }
         ensures faults { OnOk result (Works writer.old writer.new) }
+
+        // What the lines so far said, and how many there were, stays as it was.
         ensures subject { self.new.subject ≡ self.old.subject }
         ensures count { self.new.count ≡ self.old.count }
     {
@@ -144,14 +166,22 @@ impl<A: Allocator + Clone + Copy> Session<A> {
     /// Returns the fault for a next line that has no answer. The answers that wait are written first.
     fn give_up<W: Write>(&mut self, none: NoAnswer, writer: &mut Output<W>) -> SimFault
         requires { self.old.count < 2 ^ 63 }
+
+        // `Refused` has the number of the next line and the reason. All that waited is written, and no call of the
+        // writer failed.
         ensures refused { (number : ℕ) (why : Why) → result ≡ SimFault.Refused number why
             → (number ≡ self.old.count + 1) × (none ≡ NoAnswer.Refused why) }
         ensures refused_wrote { (number : ℕ) (why : Why) → result ≡ SimFault.Refused number why
             → Wrote writer.old writer.new self.old.waiting }
         ensures refused_works { (number : ℕ) (why : Why) → result ≡ SimFault.Refused number why
             → Works writer.old writer.new }
+
+        // `OutOfMemory` is returned only if memory was missing for the answer. All that waited is written.
         ensures memory { result ≡ SimFault.OutOfMemory
             → (none ≡ NoAnswer.OutOfMemory) × Wrote writer.old writer.new self.old.waiting }
+
+        // `Write` is returned only if the writer failed after a prefix of what waited. Nothing is read, so `Read` is
+        // not returned.
         ensures write { result ≡ SimFault.Write
             → WroteFront writer.old writer.new self.old.waiting × Fails writer.old writer.new }
         ensures neither { result ≢ SimFault.Read }
@@ -171,16 +201,26 @@ impl<A: Allocator + Clone + Copy> Session<A> {
     /// Answers a line, after the answers that wait. If the line has no answer, those are written.
     fn answer_line<W: Write>(&mut self, line: &[u8], writer: &mut Output<W>) -> Result<(), SimFault>
         requires { self.old.count < 2 ^ 63 }
+
+        // If it succeeds, the answer to the line comes after what waited, and the line is counted.
         ensures ok { OnOk result (AnswersLine line.now writer.old self.old writer.new self.new) }
         ensures count { OnOk result (self.new.count ≡ self.old.count + 1) }
+
+        // A refusal has the number of this line, and a reason that is right after any earlier lines that lead to this
+        // subject. All that waited is written, and no call of the writer failed.
         ensures refused { IfRefused result (λ _ why.
             (past : Past) → Stands past self.old.subject → said past line.now ≡ Err why) }
         ensures refused_wrote { IfRefused result (λ number _.
             (number ≡ self.old.count + 1) × Wrote writer.old writer.new self.old.waiting) }
         ensures refused_works { IfRefused result (λ _ _. Works writer.old writer.new) }
+
+        // If memory is missing, the line may need memory, and all that waited is written.
         ensures memory { IsErrOf result SimFault.OutOfMemory
             → (past : Past) → Stands past self.old.subject → MayWantMemory past line.now }
         ensures memory_wrote { IsErrOf result SimFault.OutOfMemory → Wrote writer.old writer.new self.old.waiting }
+
+        // If the writer fails, it wrote a prefix of what waited and the answer after it. If it succeeds, no call of the
+        // writer failed. Nothing is read, so there is no fault of the reader.
         ensures write { IsErrOf result SimFault.Write → WritesFrontWith line.now writer.old self.old writer.new }
         ensures fault { IsErrOf result SimFault.Write → Fails writer.old writer.new }
         ensures faults { OnOk result (Works writer.old writer.new) }
@@ -203,23 +243,38 @@ impl<A: Allocator + Clone + Copy> Session<A> {
         writer: &mut Output<W>,
     ) -> Result<(), SimFault>
         requires { self.old.count + length lines.old.pending ≤ 2 ^ 63 }
+
+        // If it succeeds, the answer to each whole line is written, and what is still pending has no newline. The count
+        // of lines rises by no more than the number of pending bytes falls.
         ensures ok { OnOk result
             (GoesOn writer.old lines.old.pending self.old writer.new lines.new.pending self.new) }
         ensures waiting { OnOk result (self.new.waiting ≡ []) }
         ensures plain { OnOk result (IsPlain lines.new.pending) }
         ensures room { OnOk result (self.new.count + length lines.new.pending
             ≤ self.old.count + length lines.old.pending) }
+
+        // In each case there are no more pending bytes than before, and the bound of a line stays.
         ensures less { length lines.new.pending ≤ length lines.old.pending }
         ensures bound { lines.new.bound ≡ lines.old.bound }
+
+        // If a line is refused, it is the first one that is, and the answer to each line before it is written. If no
+        // more than 98,304 bytes were pending, at most that many were read after the lines before it. No call of the
+        // writer failed.
         ensures refused { IfRefused result (λ number why.
             RefusesAt number why writer.old lines.old.pending self.old writer.new) }
         ensures near { IfRefused result (λ number _.
             ReadsUpTo number writer.old lines.old.pending self.old) }
         ensures refused_works { IfRefused result (λ _ _. Works writer.old writer.new) }
+
+        // If the writer fails, it wrote a prefix of the answer to what was read. If it succeeds, no call of the writer
+        // failed.
         ensures write { IsErrOf result SimFault.Write
             → LeavesFront writer.old lines.old.pending self.old writer.new }
         ensures fault { IsErrOf result SimFault.Write → Fails writer.old writer.new }
         ensures faults { OnOk result (Works writer.old writer.new) }
+
+        // If memory is missing, it ran out at a line of a suite, and the answer to each line before it is written.
+        // Nothing is read here, so there is no fault of the reader.
         ensures memory { IsErrOf result SimFault.OutOfMemory
             → MissesMemory writer.old lines.old.pending self.old writer.new }
         ensures neither { IfErr result (λ fault. fault ≢ SimFault.Read) }
@@ -236,19 +291,32 @@ impl<A: Allocator + Clone + Copy> Session<A> {
         lines: &mut LineReader<A>,
         writer: &mut Output<W>,
     ) -> Result<(), SimFault>
+        // No whole line is pending and nothing waits, as after `answer_pending`. One more line can be counted.
         requires room { self.old.count + length lines.old.pending ≤ 2 ^ 63 }
         requires plain { IsPlain lines.old.pending }
         requires waiting { self.old.waiting ≡ [] }
+
+        // If it succeeds and the input has ended, the answer to all of it is written.
         ensures all { OnOk result (AnswersToEnd writer.old lines.old.pending self.old writer.new) }
+
+        // If the line is refused and the input has ended, it is the first one that is refused, and the answer to each
+        // line before it is written. If no more than 98,304 bytes were pending, at most that many were read after the
+        // lines before it. No call of the writer failed.
         ensures refused { IfRefused result (λ number why.
             RefusesLast number why writer.old lines.old.pending self.old writer.new) }
         ensures near { IfRefused result (λ number _.
             ReadsUpTo number writer.old lines.old.pending self.old) }
         ensures refused_works { IfRefused result (λ _ _. Works writer.old writer.new) }
+
+        // If the writer fails, it wrote a prefix of the answer to what was read. If it succeeds, no call of the writer
+        // failed.
         ensures write { IsErrOf result SimFault.Write
             → LeavesFront writer.old lines.old.pending self.old writer.new }
         ensures fault { IsErrOf result SimFault.Write → Fails writer.old writer.new }
         ensures faults { OnOk result (Works writer.old writer.new) }
+
+        // If memory is missing and the input has ended, it ran out at a line of a suite, and the answer to each line
+        // before it is written. Nothing is read here, so there is no fault of the reader.
         ensures memory { IsErrOf result SimFault.OutOfMemory
             → MissesLast writer.old lines.old.pending self.old writer.new }
         ensures neither { IfErr result (λ fault. fault ≢ SimFault.Read) }
@@ -274,15 +342,25 @@ pub fn answer_lines<A: Allocator + Clone + Copy, D: Read, W: Write>(
     reader: &mut Input<D>,
     writer: &mut Output<W>,
 ) -> Result<(), SimFault>
+    // If it succeeds, the whole input was read, no line is refused, and the answer to each line is written. No device
+    // failed.
     ensures all { OnOk result (AnswersAll reader.old writer.old writer.new) }
     ensures end { OnOk result (IsRead reader.new) }
     ensures works { OnOk result (Works reader.old reader.new × Works writer.old writer.new) }
+
+    // If a line is refused, the answer to each line before it is written, and not much more is read. No device failed.
     ensures refused { IfRefused result (λ number why.
         AnswersUpTo reader.old reader.new writer.old writer.new (at_line number why)) }
     ensures refused_works { IfRefused result (λ _ _.
         Works reader.old reader.new × Works writer.old writer.new) }
+
+    // If memory is missing, either nothing was read and written, or it ran out at a line of a suite. In that case the
+    // answer to each line before that one is written.
     ensures memory { IsErrOf result SimFault.OutOfMemory
         → LacksMemory reader.old reader.new writer.old writer.new }
+
+    // If the reader fails, the answer to each whole line that was read is written. If the writer fails, it wrote a
+    // prefix of the answer to what was read.
     ensures read { IsErrOf result SimFault.Read
         → Fails reader.old reader.new × AnswersWholeLines reader.old reader.new writer.old writer.new }
     ensures write { IsErrOf result SimFault.Write

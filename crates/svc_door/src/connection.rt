@@ -86,14 +86,22 @@ impl<G: ByteSource> Connection<G> {
 
     /// Reads what the connection has, and posts it byte by byte. It needs no memory.
     ///
-    /// `Waits` is returned only if the connection had no bytes for now. `Full` is returned only if the mailbox was full at
-    /// the next byte: it is kept, and nothing is read before it is posted. `Ended` is returned exactly if 4096 bytes
+    /// `Waits` is returned only if the connection had no bytes for now. `Full` is returned only if the mailbox was full
+    /// at the next byte: it is kept, and nothing is read before it is posted. `Ended` is returned exactly if 4096 bytes
     /// were posted, or the connection ended or failed. A further turn reads again, if fewer than 4096 bytes were read.
     pub fn turn<R: Wait>(&mut self, rt: &R, sender: &mut ControlSender, now: u64) -> Turn
+        // The sender posts what was kept and then what was read, in order. The rest is kept, and the sender stays the
+        // same.
         ensures posts { Posts (posted_by sender.old) (posted_by sender.new) self.old self.new }
         ensures same_sender { IsSameSender (sender_in sender.old) (sender_in sender.new) }
+
+        // The result describes the connection after the turn. If it is `Full`, the mailbox was full at one moment, as
+        // far as the sender knows.
         ensures left { IsLeft result self.new }
         ensures full { result ≡ turn.Full → WasFull (sender_in sender.new) }
+
+        // The time at which the connection last gave bytes is now if it gave some or some are kept, and otherwise
+        // stays. Whether an event announces its bytes stays as it was.
         ensures spoke { self.new.spoke ≡ spoke_at result (nat_lt self.old.taken self.new.taken) self.old.spoke now }
         ensures watched { self.new.watched ≡ self.old.watched }
     {
@@ -138,11 +146,17 @@ impl<G: ByteSource> Connection<G> {
 
     // Posts what is kept. Returns whether all of it was accepted.
     fn post_kept<R: Wait>(&mut self, rt: &R, sender: &mut ControlSender) -> bool
+        // The sender posts a prefix of what was kept, and stays the same.
         ensures posts { Posts (posted_by sender.old) (posted_by sender.new) self.old self.new }
         ensures same_sender { IsSameSender (sender_in sender.old) (sender_in sender.new) }
+
+        // Nothing is read, and nothing else of the connection changes.
         ensures unread { (self.new.left ≡ self.old.left) × (self.new.said ≡ self.old.said)
             × (self.new.taken ≡ self.old.taken) }
         ensures same { (self.new.spoke ≡ self.old.spoke) × (self.new.watched ≡ self.old.watched) }
+
+        // The result is true exactly if nothing is kept any more. If it is false, the mailbox was full at one moment,
+        // as far as the sender knows.
         ensures all { result ≡ true → self.new.kept ≡ [] }
         ensures some { result ≡ false → 0 < length self.new.kept }
         ensures full { result ≡ false → WasFull (sender_in sender.new) }
@@ -160,11 +174,19 @@ impl<G: ByteSource> Connection<G> {
     fn read(&mut self) -> Heard
         requires none { self.old.kept ≡ [] }
         requires some { self.old.taken < MOST }
+
+        // The bytes that are kept are the next ones that the connection gave. They are counted, and with all earlier
+        // ones they are at most 4096.
         ensures gives { Consumes self.old.left self.new.left self.new.kept }
         ensures count { self.new.taken ≡ self.old.taken + length self.new.kept }
         ensures most { self.new.taken ≤ MOST }
+
+        // The result is the number of these bytes, or why there are none. It is also the last result that the
+        // connection keeps, if it keeps that.
         ensures reads { Reads result self.old self.new }
         ensures said { Said self.new result }
+
+        // The end of the turn, and not the read, sets when the connection last gave bytes.
         ensures same { (self.new.spoke ≡ self.old.spoke) × (self.new.watched ≡ self.old.watched) }
     {
         let room = PIECE.min(MOST - self.taken);

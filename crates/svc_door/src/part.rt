@@ -48,11 +48,16 @@ impl Part {
         control: UnixListener,
         ok: UnixListener,
     ) -> Part
+        // The part has what it is given: its bytes go to this sender, and its events will name this token.
         ensures number { result.number ≡ number }
         ensures token { result.token ≡ token }
         ensures sender { result.sender ≡ sender }
+
+        // It waits for an event: it has no connection, and is not due at any time.
         ensures due { result.due ≡ None }
         ensures connection { result.connection ≡ None }
+
+        // Its listeners have these sockets, which `register` makes the registry watch.
         ensures listeners { (result.control.socket ≡ control) × (result.ok.socket ≡ ok) }
     {
         Part {
@@ -68,6 +73,8 @@ impl Part {
 
     /// Makes the registry watch both listeners.
     pub fn register(&mut self, registry: &Registry) -> io::Result<()>
+        // Even if it fails, the part keeps its token, its number, its sender, its connection and its sockets, and is
+        // due as before.
         ensures token { self.new.token ≡ self.old.token }
         ensures number { self.new.number ≡ self.old.number }
         ensures sender { self.new.sender ≡ self.old.sender }
@@ -75,6 +82,8 @@ impl Part {
         ensures connection { self.new.connection ≡ self.old.connection }
         ensures sockets { (self.new.control.socket ≡ self.old.control.socket)
             × (self.new.ok.socket ≡ self.old.ok.socket) }
+
+        // If it succeeds, the events of both listeners name the token of the part.
         ensures watched { OnOk result ((self.new.control.watched ≡ Some self.old.token)
             × (self.new.ok.watched ≡ Some self.old.token)) }
     {
@@ -105,11 +114,17 @@ impl Part {
     ///
     /// A part with a connection is due at some time. If the connection that it had is over, it is due at once.
     pub fn turn<R: Wait>(&mut self, rt: &R, registry: &Registry, now: u64)
+        // A part that has a connection, or has lost the one that it had, does not depend on an event for its next turn.
         ensures due { IsSome self.new.connection → IsSome self.new.due }
         ensures next { HasClosed self.old.connection self.new.connection
             → IsSomeAnd self.new.due (λ due. due ≤ now) }
+
+        // This turn alone decides when the part is due again. The bytes that it posts are the next ones of its
+        // connection.
         ensures takes { TakesTurn (posted_by self.old.sender) (posted_by self.new.sender) now
             self.new.ok self.new.control self.old.connection self.new.connection self.new.due }
+
+        // The part keeps its number, its token and its listeners, and posts through the same sender.
         ensures same_sender { IsSameSender (sender_in self.old.sender) (sender_in self.new.sender) }
         ensures number { self.new.number ≡ self.old.number }
         ensures token { self.new.token ≡ self.old.token }
@@ -121,10 +136,17 @@ impl Part {
     }
 
     fn serve<R: Wait>(&mut self, rt: &R, registry: &Registry, now: u64) -> Option<u64>
+        // The result is when the part is due for its connection. There is such a time as long as there is a connection,
+        // and it is now if the one that there was is over.
         ensures due { IsSome self.new.connection → IsSome result }
         ensures next { HasClosed self.old.connection self.new.connection → result ≡ Some now }
+
+        // Either there is no connection and nothing was posted, or the connection had its turn.
         ensures serves { Serves (posted_by self.old.sender) (posted_by self.new.sender) now
             self.new.control self.old.connection self.new.connection result }
+
+        // The part keeps its number, its token and its listeners, and posts through the same sender. The listener `ok`
+        // is not asked.
         ensures same_sender { IsSameSender (sender_in self.old.sender) (sender_in self.new.sender) }
         ensures number { self.new.number ≡ self.old.number }
         ensures token { self.new.token ≡ self.old.token }
@@ -138,10 +160,16 @@ impl Part {
 
     // Provides a connection to continue with: the one that there is, or the next one that comes.
     fn connect(&mut self, registry: &Registry, now: u64) -> io::Result<()>
+        // If it succeeds, the part has a connection. If it had one before, this is as it was.
         ensures with_one { OnOk result ((connection : ConnectionState)
             × (self.new.connection ≡ Some connection) × GoesOnWith now self.old.connection connection) }
+
+        // If it fails, there was no connection, and there is none. The listener keeps the kind of the error, which
+        // decides when it is asked again.
         ensures none { OnErr result ((self.old.connection ≡ None) × (self.new.connection ≡ None)) }
         ensures refused { IfErr result (λ fault. self.new.control.refused ≡ Some (error_kind fault)) }
+
+        // Nothing is posted. The part keeps its number, its token and its listeners, and `ok` is not asked.
         ensures sender { self.new.sender ≡ self.old.sender }
         ensures number { self.new.number ≡ self.old.number }
         ensures token { self.new.token ≡ self.old.token }
@@ -170,10 +198,17 @@ impl Part {
 
     // Continues with the connection. If there is none any more, the next one is looked for at once.
     fn hear<R: Wait>(&mut self, rt: &R, now: u64) -> u64
+        // If the connection stays, the result is when the door looks at it again. If there is none any more, the result
+        // is now.
         ensures over { IsNone self.new.connection → result ≡ now }
         ensures looks { LooksAgainAt self.old.connection self.new.connection now result }
+
+        // If there was a connection, it had its turn, and posted its next bytes.
         ensures hears { (old : ConnectionState) → self.old.connection ≡ Some old
             → HasTurn (posted_by self.old.sender) (posted_by self.new.sender) now old self.new.connection result }
+
+        // The part keeps its number, its token and its listeners, which are not asked, and posts through the same
+        // sender.
         ensures same_sender { IsSameSender (sender_in self.old.sender) (sender_in self.new.sender) }
         ensures number { self.new.number ≡ self.old.number }
         ensures token { self.new.token ≡ self.old.token }

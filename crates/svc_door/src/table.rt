@@ -94,12 +94,18 @@ impl Table {
 
     // Makes the registry watch a part, after there is room for it and for its turns.
     fn watch(&mut self, part: &mut Part, registry: &Registry) -> io::Result<()>
+        // If it succeeds, one more part can get a slot, and its turns, without more memory.
         ensures room { OnOk result (HasRoomFor self.new.parts 1) }
         ensures room_for_turns { OnOk result (slab_len self.new.parts + 1 ≤ vec_capacity self.new.open_slots) }
+
+        // The table stays as it was, even if it fails: each slot, the next free one, and those that have a turn.
         ensures parts { (slot : ℕ) → get self.new.parts slot ≡ get self.old.parts slot }
         ensures vacant { self.new.parts.vacant_key ≡ self.old.parts.vacant_key }
         ensures open { self.new.open_slots.items ≡ self.old.open_slots.items }
         ensures ends { self.new.ends ≡ self.old.ends }
+
+        // Even if it fails, the part keeps its token, its number, its sender, its connection and its sockets, and is
+        // due as before.
         ensures token { part.new.token ≡ part.old.token }
         ensures number { part.new.number ≡ part.old.number }
         ensures sender { part.new.sender ≡ part.old.sender }
@@ -107,6 +113,8 @@ impl Table {
         ensures connection { part.new.connection ≡ part.old.connection }
         ensures sockets { (part.new.control.socket ≡ part.old.control.socket)
             × (part.new.ok.socket ≡ part.old.ok.socket) }
+
+        // If it succeeds, the events of both listeners name the token of the part.
         ensures watched { OnOk result ((part.new.control.watched ≡ Some part.old.token)
             × (part.new.ok.watched ≡ Some part.old.token)) }
     {

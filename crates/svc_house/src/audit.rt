@@ -24,10 +24,17 @@ pub fn last_reading<A: Allocator>(
 ) -> Result<(Machine, TraceText<A>), AllocError>
     requires station { note_station note ≡ reader_station reader.old }
     requires gone { phase_of (history_in note) ≡ phase.Gone }
+
+    // The reader stays the same, and still knows all that it knew.
     ensures same { IsSameReader reader.old reader.new }
     ensures own { IsPrefix (known_to reader.old) (known_to reader.new) }
+
+    // It knows the events of the note and no more, even if there is no memory for the trace.
     ensures whole { known_to reader.new ≡ told_by note }
     ensures history { history_at reader.new ≡ history_in note }
+
+    // If there is memory, the machine and the trace are those after this whole history. The trace replays to the
+    // machine.
     ensures machine { IfOk result (λ read. read.0 ≡ state_of (history_in note)) }
     ensures trace { IfOk result (λ read. read.1 ≡ trace_at reader.new) }
     ensures replays { IfOk result (λ read. replay_of read.1 ≡ state_of (history_in note)) }

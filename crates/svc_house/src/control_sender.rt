@@ -27,11 +27,18 @@ impl<A: Allocator + Clone> ControlSender<A> {
 
     /// Posts a control byte, once, and then notifies. `Full` gives the byte back, and nothing was posted.
     pub fn post<R: Wait>(&mut self, rt: &R, byte: u8) -> Result<(), Full<u8>>
+        // If it succeeds, the byte is the last one that this sender posted. It comes in the history of the mailbox
+        // after all that the sender had seen of it.
         ensures same { IsSameSender (sender_in self.old) (sender_in self.new) }
         ensures posted { OnOk result (posted_by self.new ≡ posted_by self.old ++ byte ∷ []) }
         ensures history { OnOk result (JoinsHistory (sender_in self.old) byte (sender_in self.new)) }
+
+        // If it fails, nothing was posted, and the sender has seen no more of the history.
         ensures unposted { OnErr result (posted_by self.new ≡ posted_by self.old) }
         ensures unseen { OnErr result (seen_by (sender_in self.new) ≡ seen_by (sender_in self.old)) }
+
+        // The sender learns no note. If it fails, the byte comes back, and the mailbox was full at one moment, as far
+        // as the sender knows.
         ensures unheard { heard_by (sender_in self.new) ≡ heard_by (sender_in self.old) }
         ensures full { IfErr result (λ full. (full.0 ≡ byte) × WasFull (sender_in self.old)) }
     {

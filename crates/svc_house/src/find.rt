@@ -38,13 +38,24 @@ pub(crate) fn find<W: World, I: Inbox, G: Gate, R: Wait>(
     gate: &mut G,
 ) -> Pending
     requires { is_gone machine.now.phase ≡ false }
+
+    // The machine takes what is found.
     ensures ready { IsReady machine.now result }
+
+    // If something is found, the world was called only to find it. If nothing is found, each poll of the phase was
+    // made, and found nothing.
     ensures polls { result ≢ pending.Empty
         → ExtendedWhileKept (W.calls world.old) (W.calls world.new) (polls_before result machine.now.phase) }
     ensures vain { result ≡ pending.Empty
         → PolledInVain machine.now.phase machine.now.until (W.calls world.old) (W.calls world.new) }
+
+    // The world is not asked to mend. The gate is passed once while the service starts, and not at all in another
+    // phase.
     ensures mends { W.mends world.new ≡ W.mends world.old }
     ensures gate { PassesGate pending.Empty machine.now.phase (G.passes gate.old) (G.passes gate.new) }
+
+    // The inbox has the same source, and gave the control byte that is found, if there is one. If the phase takes bytes
+    // and none is found, the inbox was asked and had none.
     ensures source { I.source inbox.new ≡ I.source inbox.old }
     ensures given { I.given inbox.new ≡ I.given inbox.old ++ bytes_in (events_in result) }
     ensures nones { takes_bytes machine.now.phase ≡ true → has_byte result ≡ false

@@ -52,14 +52,23 @@ impl<W: World, I: Inbox, G: Gate + Drop> House<W, I, G> {
     /// Opens a service with a new station. The world is asked `first`, in order, and nothing else. If the service
     /// begins, these are the asks with which its machine begins.
     pub fn open(world: W, inbox: I, gate: G, writer: Writer, first: Asks) -> House<W, I, G>
+        // Nothing is published yet, the inbox gave no byte, and the world returned no result of a start and no death. A
+        // signal among the asks goes to one process.
         requires published { published writer ≡ [] }
         requires given { I.given inbox ≡ [] }
         requires answered { IfSome (W.calls world) (λ calls. answers_in calls ≡ []) }
         requires asks { All IsAsk first }
+
+        // If the world keeps its calls, it was called for these asks and for nothing else.
         ensures calls { ExtendedWhileKept (W.calls world) result.calls (requested first) }
+
+        // The service takes bytes from this inbox, and publishes to the station of the writer. Nothing is published or
+        // pending.
         ensures inbox { (result.inbox ≡ inbox) × (result.source ≡ I.source inbox) }
         ensures station { (result.station ≡ station writer) × (result.opening ≡ opening_of writer) }
         ensures events { (result.events ≡ []) × (result.pending ≡ pending.Empty) }
+
+        // The gate was not passed, and the world was not asked to mend.
         ensures passes { result.passes ≡ G.passes gate }
         ensures mends { result.mends ≡ W.mends world }
     {
@@ -137,15 +146,24 @@ impl<W: World, I: Inbox, G: Gate + Drop> House<W, I, G> {
     fn look<R: Wait>(&mut self, rt: &R) -> Option<Event>
         requires pending { self.old.pending ≡ pending.Empty }
         requires phase { is_gone (phase_in self.old) ≡ false }
+
+        // The service stays the same. Nothing is published, and the world is not asked to mend.
         ensures same { IsSameHouse self.old self.new }
         ensures mends { self.new.mends ≡ self.old.mends }
         ensures events { self.new.events ≡ self.old.events }
+
+        // What is found is pending, and the result is the first event of it.
         ensures pending { MatchOption result (self.new.pending ≡ pending.Empty)
             (λ event. IsNext event self.new.pending) }
+
+        // If something is found, the world was called only to find it. The inbox is asked if the phase takes bytes, and
+        // the gate is passed if the service starts.
         ensures polls { self.new.pending ≢ pending.Empty
             → ExtendedWhileKept self.old.calls self.new.calls (polls_of self.old self.new.pending) }
         ensures listens { Listens self.old self.new.pending self.new }
         ensures gate { PassesGate pending.Empty (phase_in self.old) self.old.passes self.new.passes }
+
+        // If nothing is found, the turn is idle: each poll of the phase was made, and found nothing.
         ensures idle { self.new.pending ≡ pending.Empty → IsIdle self.old self.new }
     {
         let machine = self.writer.machine();
@@ -162,16 +180,26 @@ impl<W: World, I: Inbox, G: Gate + Drop> House<W, I, G> {
     // Publishes the next pending event, and then asks for what it asks for.
     fn publish<R: Wait>(&mut self, rt: &R, event: Event) -> Result<Turned, HouseFault>
         requires { IsNext event self.old.pending }
+
+        // The service stays the same, and the world is not asked to mend.
         ensures same { IsSameHouse self.old self.new }
         ensures mends { self.new.mends ≡ self.old.mends }
+
+        // If it succeeds, the event is published, and then the world was asked what the event asks for. A clock reading
+        // is the last one that the world gave.
         ensures took { IfOk result (λ turned. turned ≡ Turned.Took event) }
         ensures published { OnOk result (self.new.events ≡ self.old.events ++ event ∷ []) }
         ensures requested { OnOk result
             (ExtendedWhileKept self.old.calls self.new.calls (requested (asks_of (past_of self.old) event))) }
         ensures reading { OnOk result (IfSome self.new.calls (IsLastReading event)) }
+
+        // If it succeeds, what was found with the event is still pending. The inbox was not asked, and the gate was not
+        // passed.
         ensures pending { OnOk result (self.new.pending ≡ rest_of self.old.pending) }
         ensures nones { OnOk result (self.new.nones ≡ self.old.nones) }
         ensures gate { OnOk result (self.new.passes ≡ self.old.passes) }
+
+        // If memory is missing, nothing changes.
         ensures refused { OnErr result (self.new ≡ self.old) }
     {
         let taken = event;
@@ -208,11 +236,17 @@ impl<W: World, I: Inbox, G: Gate + Drop> House<W, I, G> {
 
     /// Returns the parts of the service, with what is pending. `facts` says what is true of them.
     pub fn take_apart(self) -> (W, I, Writer, Pending)
+        // The inbox comes back as it was, the world with the same calls, and the writer with the same station and
+        // events.
         ensures world { W.calls result.0 ≡ self.calls }
         ensures inbox { result.1 ≡ self.inbox }
         ensures writer { (station result.2 ≡ self.station) × (published result.2 ≡ self.events) }
+
+        // The history of the writer and what is pending are, together, all that was found.
         ensures history { history_of result.2 ≡ past_of self }
         ensures pending { result.3 ≡ self.pending }
+
+        // What was found is what the inbox and the world gave, and the machine takes what is pending.
         ensures facts { IsHouse self }
     {
         let House {

@@ -23,11 +23,18 @@ impl News {
         sender: &mut Sender<u8, A>,
         item: u8,
     ) -> Result<News, Full<u8>>
+        // If it succeeds, the item is the last one that this sender posted. It comes in the history of the mailbox
+        // after all that the sender had seen of it.
         ensures same { IsSameSender sender.old sender.new }
         ensures posted { OnOk result (posted sender.new ≡ posted sender.old ++ item ∷ []) }
         ensures history { OnOk result (JoinsHistory sender.old item sender.new) }
+
+        // If it fails, nothing was posted, and the sender has seen no more of the history.
         ensures unposted { OnErr result (posted sender.new ≡ posted sender.old) }
         ensures unseen { OnErr result (seen_by sender.new ≡ seen_by sender.old) }
+
+        // The sender learns no note. If it fails, the item comes back, and the mailbox was full at one moment, as far
+        // as the sender knows.
         ensures unheard { heard_by sender.new ≡ heard_by sender.old }
         ensures full { IfErr result (λ full. (full.0 ≡ item) × WasFull sender.old) }
     {

@@ -56,8 +56,8 @@ pub trait World {
         ensures calls { calls self.new ≡ calls self.old }
         ensures mends { CountsOne (mends self.old) (mends self.new) };
 
-    /// Returns how many seconds after it was asked to go the service's process gets KILL. Returns None if it never does,
-    /// or if there is no process.
+    /// Returns how many seconds after it was asked to go the service's process gets KILL. Returns None if it never
+    /// does, or if there is no process.
     fn kill_time(&mut self) -> Option<u64>
         ensures calls { calls self.new ≡ calls self.old }
         ensures mends { mends self.new ≡ mends self.old };

@@ -66,12 +66,18 @@ impl<T: Copy, A: Allocator> Receiver<T, A> {
     ///
     /// The call needs no memory. It may wait, at any letter. After 2^62 letters it waits for ever.
     pub fn take<R: Wait>(&mut self, rt: &R) -> Option<Letter<T>>
+        // If a letter is returned, it is the last one taken, and all that was taken begins the history of the mailbox.
+        // If none is returned, nothing was taken, and the receiver has seen no more.
         ensures same { IsSameReceiver self.old self.new }
         ensures taken { MatchOption result (taken_by self.new ≡ taken_by self.old)
             (λ letter. taken_by self.new ≡ taken_by self.old ++ letter ∷ []) }
         ensures history { MatchOption result (seen_at self.new ≡ seen_at self.old)
             (λ _. FollowsHistory self.old self.new) }
+
+        // If none is returned, what was taken was the whole history at one moment, as far as the receiver knows.
         ensures empty { MatchOption result (WasEmpty self.old) (λ _. ⊤) }
+
+        // The receiver learns no note, and takes at most 2^62 letters in all.
         ensures heard { heard_at self.new ≡ heard_at self.old }
         ensures within { length (taken_by self.new) ≤ 2 ^ 62 }
     {

@@ -40,11 +40,16 @@ impl<T: Copy, A: Allocator + Clone> Sender<T, A> {
         mark: &mut Mark<T>,
         number: usize,
     ) -> Result<Sender<T, A>, AllocError>
+        // The pass is the one of the receiver, and the sender with this number is made next.
         requires pass { IsPassOf (arc_value queue.now) mark.old }
         requires takes { (view mark.old).takes ≡ true }
         requires next { ((view mark.old).made ≡ number) × (number < (view mark.old).all) }
+
+        // If there is memory, the receiver keeps its pass, and one more sender is made.
         ensures pass { OnOk result (IsPassOf (arc_value queue.now) mark.new) }
         ensures made { OnOk result (view mark.new ≡ with_made (view mark.old)) }
+
+        // The sender belongs to the same mailbox and has this number. It has posted nothing and learnt no note.
         ensures queue { IfOk result (λ s. arc_value s.queue ≡ arc_value queue.now) }
         ensures seat { IfOk result (λ s. IsPassOf (arc_value queue.now) s.mark) }
         ensures knows { IfOk result (λ s. view s.mark ≡ next_sender (view mark.old)) }
@@ -90,12 +95,19 @@ impl<T: Copy, A: Allocator + Clone> Sender<T, A> {
     ///
     /// The call needs no memory. It may wait, at any letter. After 2^62 letters of this sender it waits for ever.
     pub fn post<R: Wait>(&mut self, rt: &R, item: T) -> Result<(), Full<T>>
+        // If it succeeds, the item is the last one that this sender posted. It comes in the history of the mailbox
+        // after all that the sender had seen of it. If it fails, nothing was posted, and the sender has seen no more.
         ensures same { IsSameSender self.old self.new }
         ensures row { MatchResult result (λ _. posted self.new ≡ posted self.old ++ item ∷ [])
             (λ _. posted self.new ≡ posted self.old) }
         ensures history { MatchResult result (λ _. JoinsHistory self.old item self.new)
             (λ _. seen_by self.new ≡ seen_by self.old) }
+
+        // If it fails, the item comes back. A history that agrees with all that the sender knows then filled the
+        // mailbox.
         ensures full { IfErr result (λ full. (full.0 ≡ item) × WasFull self.old) }
+
+        // The sender learns no note, and posts at most 2^62 items in all.
         ensures heard { heard_by self.new ≡ heard_by self.old }
         ensures within { length (posted self.new) ≤ 2 ^ 62 }
     {

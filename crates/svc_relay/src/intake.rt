@@ -65,11 +65,18 @@ impl<D: Read + Drop> Intake<D> {
     /// reader's end, with nothing kept; a further turn reads again. The fault `Read` is returned only if the reader
     /// failed.
     pub fn turn<R: Wait>(&mut self, rt: &R) -> Result<IntakeTurn, IntakeFault>
+        // The sender stays the same, and no byte is lost: all bytes read since the beginning are posted or kept, in
+        // order.
         ensures same { IsSameSender self.old.sender self.new.sender }
         ensures opening { self.new.opening ≡ self.old.opening }
         ensures bytes { IsIntake self.new }
+
+        // If a piece was kept, nothing is read. The result says whether a piece is posted, the mailbox was full, or the
+        // reader is at its end.
         ensures kept { IsSome self.old.kept → DidNotRead self.old self.new }
         ensures turned { IfOk result (λ turned. IsIntakeTurn self.old turned self.new) }
+
+        // If it fails, the reader failed, and nothing was posted or is kept. If it succeeds, the reader did not fail.
         ensures works { OnOk result (Works self.old.reader self.new.reader) }
         ensures fault { OnErr result (IsUnread self.old self.new) }
     {
@@ -95,12 +102,18 @@ impl<D: Read + Drop> Intake<D> {
 
     // Returns the piece that is kept, or reads the next one and keeps it.
     fn next(&mut self) -> Result<Option<Piece>, IntakeFault>
+        // Nothing is posted, and no byte is lost: all bytes read since the beginning are posted or kept, in order.
         ensures sender { self.new.sender ≡ self.old.sender }
         ensures opening { self.new.opening ≡ self.old.opening }
         ensures bytes { IsIntake self.new }
+
+        // If it succeeds, the piece that is returned is kept. If one was kept before, nothing is read. If there is
+        // none, the reader is at its end.
         ensures found { IfOk result (λ piece. self.new.kept ≡ piece) }
         ensures kept { IsSome self.old.kept → DidNotRead self.old self.new }
         ensures ended { IfOk result (λ piece. piece ≡ None → IsAtEnd self.old self.new) }
+
+        // If it fails, the reader failed, and no piece is kept. If it succeeds, the reader did not fail.
         ensures works { OnOk result (Works self.old.reader self.new.reader) }
         ensures fault { OnErr result (IsUnread self.old self.new) }
     {
@@ -121,9 +134,15 @@ impl<D: Read + Drop> Intake<D> {
     // Posts the piece that is kept.
     fn post<R: Wait>(&mut self, rt: &R, piece: Piece) -> IntakeTurn
         requires { self.old.kept ≡ Some piece }
+
+        // The sender stays the same, and no byte is lost: all bytes read since the beginning are posted or kept, in
+        // order.
         ensures same { IsSameSender self.old.sender self.new.sender }
         ensures opening { self.new.opening ≡ self.old.opening }
         ensures bytes { IsIntake self.new }
+
+        // Nothing is read. Either the piece is posted and none is kept, or the mailbox was full and the piece is still
+        // kept.
         ensures kept { DidNotRead self.old self.new }
         ensures turned { IsIntakeTurn self.old result self.new }
     {

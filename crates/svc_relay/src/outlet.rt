@@ -20,9 +20,14 @@ pub trait Outlet {
 
     /// Puts a prefix of the piece, and returns its length. At `Err` nothing was put.
     fn put(&mut self, piece: &[u8]) -> Result<usize, OutletFault>
+        // If it succeeds, a prefix of the piece comes after the bytes that were put before. It is empty only if the
+        // piece is.
         ensures within { IfOk result (λ count. count ≤ length piece.now) }
         ensures some { IfOk result (λ count. 0 < length piece.now → 0 < count) }
         ensures front { IfOk result (λ count. bytes self.new ≡ append_known (bytes self.old) (take count piece.now)) }
+
+        // If it fails, the outlet took nothing, and its count of failures rises, up to its maximum. If it succeeds,
+        // this count stays.
         ensures nothing { OnErr result (bytes self.new ≡ bytes self.old) }
         ensures works { OnOk result (failures self.new ≡ failures self.old) }
         ensures failed { OnErr result (Rose (failures self.old) (failures self.new)) };

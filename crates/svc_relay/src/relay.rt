@@ -54,8 +54,13 @@ fn gather<R: Wait>(rt: &R, receiver: &mut Receiver<Piece>, waiting: &mut Block)
 // Takes the letters that are there. Returns whether there were any.
 fn fill<R: Wait>(rt: &R, receiver: &mut Receiver<Piece>, waiting: &mut Block) -> bool
     requires { waiting.old ≡ [] }
+
+    // The receiver stays the same, and the bytes of the letters that it took wait, in order.
     ensures same { IsSameReceiver receiver.old receiver.new }
     ensures bytes { Gathers receiver.old receiver.new waiting.old waiting.new }
+
+    // If there were letters, at least one byte waits. If there were none, nothing was taken, and the mailbox was empty
+    // at one moment, as far as the receiver knows.
     ensures some { result ≡ true → 0 < length waiting.new }
     ensures none { result ≡ false → (waiting.new ≡ []) × (taken_by receiver.new ≡ taken_by receiver.old) }
     ensures empty { result ≡ false → WasEmpty receiver.old }
@@ -72,10 +77,15 @@ fn fill<R: Wait>(rt: &R, receiver: &mut Receiver<Piece>, waiting: &mut Block) ->
 
 // Puts bytes, until all are put or the outlet fails. Returns how many were put, and whether the outlet failed.
 fn put_all<O: Outlet>(outlet: &mut O, bytes: &[u8]) -> (usize, bool)
+    // A prefix of the bytes was put, with the length that is returned.
     ensures within { result.0 ≤ length bytes.now }
     ensures front { O.bytes outlet.new ≡ append_known (O.bytes outlet.old) (take result.0 bytes.now) }
+
+    // If the outlet did not fail, this prefix is all of the bytes, and the count of failures stays.
     ensures all { result.1 ≡ false → result.0 ≡ length bytes.now }
     ensures works { result.1 ≡ false → O.failures outlet.new ≡ O.failures outlet.old }
+
+    // If the outlet failed, at least one byte was not put, and the count of failures rises, up to its maximum.
     ensures broken { result.1 ≡ true → result.0 < length bytes.now }
     ensures failed { result.1 ≡ true → Rose (O.failures outlet.old) (O.failures outlet.new) }
 {
@@ -154,11 +164,17 @@ impl<O: Outlet> Relay<O> {
     // Returns whether there is something to put: the bytes that are kept, or the pieces that are there, which it then
     // keeps.
     fn refill<R: Wait>(&mut self, rt: &R) -> bool
+        // The receiver stays the same. Nothing is put, and the outlet did not fail.
         ensures same { IsSameReceiver self.old.receiver self.new.receiver }
         ensures earlier { self.new.earlier ≡ self.old.earlier }
         ensures here { self.new.here ≡ self.old.here }
         ensures outlet { (self.new.shown ≡ self.old.shown) × (self.new.failures ≡ self.old.failures) }
+
+        // If bytes were kept, nothing is taken.
         ensures kept { 0 < length self.old.kept → self.new.receiver ≡ self.old.receiver }
+
+        // If there is something to put, at least one byte is kept. If there is nothing, none was kept, and there was no
+        // piece.
         ensures some { result ≡ true → 0 < length self.new.kept }
         ensures none { result ≡ false → HadNone self.old self.new × IsRelay self.new }
     {

@@ -57,9 +57,14 @@ impl Play<Event, u64> for Look {
 
 // Returns the pen of a new cell with its word made, or `None` if the book has a different number of events and cells.
 fn next_pen(head: &Head, seen: &Token, sum: u64) -> Option<Pen>
+    // The word is the first one of this book. The sum is at most the number of the events seen, with as many cells and
+    // three more. It can rise by one.
     requires head { head.now ≡ head_of seen.now.book }
     requires sum { sum ≤ 2 * length seen.now.log + 3 }
     requires fits { sum + 1 < 2 ^ 64 }
+
+    // If a pen is returned, it belongs to this book, and may write the new cell. The number of this cell is the sum
+    // without the number of the events seen.
     ensures book { IfSome result (λ pen. pen.book ≡ seen.now.book) }
     ensures right { IfSome result (λ pen. pen.nib.right ≡ may_write) }
     ensures key { IfSome result (λ pen. pen.nib.key ≡ sum - length seen.now.log) }

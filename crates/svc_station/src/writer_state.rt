@@ -52,13 +52,19 @@ fn add_once(
 
 // Shows the one event that is pending. The history `next` ends in it.
 fn show<R: Wait>(rt: &R, inner: ShownWriter, appender: Appender, next: Prefix) -> WriterState
+    // What is shown follows the rule of the station, and this end knows the station. One event is pending, and the
+    // appender has added it.
     requires shown { IsShown inner.desk.shown.value }
     requires knows { view inner.desk.place ≡ origin_of inner.desk.shown.value }
     requires appender { appender.prefix ≡ next }
     requires pending { IsPending inner.desk.shown.value next (drop inner.behind inner.log.items) }
+
+    // The whole history is shown, and no event is owed.
     ensures prefix { result.prefix ≡ next }
     ensures appender { result.appender.prefix ≡ next }
     ensures owed { result.owed ≡ None }
+
+    // The station stays the same.
     ensures station { origin_of result.inner.desk.shown.value ≡ origin_of inner.desk.shown.value }
 {
     let (inner, published) = inner.publish_as::<Look, R>(rt);
@@ -90,10 +96,14 @@ impl WriterState {
         appender: Appender,
         prefix: Prefix,
     ) -> Result<WriterState, AllocError>
+        // What is shown follows the rule of the station, and is all that was added. Nothing is pending, and this end
+        // does not know the station yet.
         requires shown { IsShown inner.desk.shown.value × (inner.desk.shown.value.prefix ≡ prefix) }
         requires pending { drop inner.behind inner.log.items ≡ [] }
         requires appender { appender.prefix ≡ prefix }
         requires stranger { (view inner.desk.place).knows ≡ false }
+
+        // If there is memory, the station and its history are as before, and no event is owed.
         ensures prefix { IfOk result (λ state. state.prefix ≡ prefix) }
         ensures appender { IfOk result (λ state. state.appender.prefix ≡ prefix) }
         ensures station { IfOk result (λ state. state_station state ≡ origin_of inner.desk.shown.value) }
@@ -159,9 +169,15 @@ impl WriterState {
     ) -> (WriterState, Result<(), AllocError>)
         requires event { IsEvent event }
         requires taken { takes (history_on self) event ≡ true }
+
+        // The station stays the same. If it succeeds, the event comes after those that were published. If it fails,
+        // nothing more is published.
         ensures same { state_station result.0 ≡ state_station self }
         ensures published { OnOk result.1 (result.0.prefix.seen.log ≡ self.prefix.seen.log ++ event ∷ []) }
         ensures refused { OnErr result.1 (result.0.prefix.seen.log ≡ self.prefix.seen.log) }
+
+        // If it succeeds, all events that were added are published. If it fails, either nothing was added, or the
+        // events that are added are those that are published, followed by this one.
         ensures whole { OnOk result.1 (added_on result.0 ≡ result.0.prefix.seen.log) }
         ensures owed { OnErr result.1 (MayOwe event (added_on self) self.prefix.seen.log (added_on result.0)) }
     {

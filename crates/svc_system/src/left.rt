@@ -49,11 +49,17 @@ fn find_in(recorded: Option<ProcessId>, boot: Option<&BootId>, tick: Option<u64>
 /// Returns what became of the last process. If a start was intended after it, what is left over from that start
 /// decides.
 fn found_over(found: Fate, over: Option<Leftover>, boot: Option<&BootId>) -> Fate
+    // A process that was found or is left over has a number of at least 1. If the fate is known, this boot is known,
+    // and a process that lives began in it.
     requires living { IsLiving found }
     requires of_boot { IsOfBoot (option_copied boot) found }
     requires over { IfSome over HasNumber }
+
+    // This is also true of the result.
     ensures living { IsLiving result }
     ensures of_boot { IsOfBoot (option_copied boot.entry) result }
+
+    // What is left over decides nothing if this boot is not known.
     ensures found { result ≡ found_over found over (option_copied boot.entry) }
 {
     match (over, boot) {

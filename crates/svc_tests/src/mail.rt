@@ -44,10 +44,13 @@ fn close_two<T: Copy, A: Allocator + Clone, R: Wait>(
     receiver: Receiver<T, A>,
     mut ends: Vec<Sender<T, A>, A>,
 ) -> Result<Letters<T, A>, AllocError>
+    // These are the only two senders of the mailbox and its receiver. The vector for the senders is empty.
     requires one { (home one ≡ box_of mailbox) × (number_of one ≡ 0) }
     requires two { (home two ≡ box_of mailbox) × (number_of two ≡ 1) }
     requires receiver { IsItsReceiver mailbox receiver × (senders_in mailbox ≡ 2) }
     requires room { ends.items ≡ [] }
+
+    // If it succeeds, the letters taken before and those left are, for each sender, all that it posted, in order.
     ensures one { IfOk result (λ left. row_of 0 (taken_by receiver ++ left) ≡ posted one) }
     ensures two { IfOk result (λ left. row_of 1 (taken_by receiver ++ left) ≡ posted two) }
 {
