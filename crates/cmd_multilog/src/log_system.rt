@@ -111,9 +111,12 @@ pub trait LogSystem {
 
     /// Returns the folder at a path. Makes it if it is missing. The list of its errors continues this one's.
     fn folder(&mut self, path: &[u8]) -> io::Result<Self::Folder>
+        // If it succeeds, the folder is the one at that path, and its list of errors continues this one's, which stays.
         ensures path { IfOk result (λ folder. IfSome (Self.Folder.folder folder) (λ f. f.path ≡ path.now)) }
         ensures goes_on { IfOk result (λ folder. Self.Folder.gave folder ≡ gave self.old) }
         ensures well { OnOk result (gave self.new ≡ gave self.old) }
+
+        // If it fails, the list of errors has one more. The path is noted in both cases.
         ensures gave { IfErr result (λ error. Extended (gave self.old) (gave self.new) (error ∷ [])) }
         ensures asked { Extended (asked self.old) (asked self.new) (path.now ∷ []) }
         ensures alerts { alerts self.new ≡ alerts self.old };

@@ -88,8 +88,7 @@ impl WriterState {
     ghost use Rattle.svc_station.specs.Origins.{origin_in};
     ghost use mathlib.Core.List.{IsPrefix};
 
-    // Makes room for all later operations by a first one without an event, so no later append grows. Nothing is
-    // pending, and the trace is new.
+    // Makes room for all later operations by a first one without an event, so no later append grows.
     pub(crate) fn with_room<R: Wait>(
         rt: &R,
         inner: ShownWriter,

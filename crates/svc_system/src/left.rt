@@ -46,8 +46,8 @@ fn find_in(recorded: Option<ProcessId>, boot: Option<&BootId>, tick: Option<u64>
     }
 }
 
-/// Returns what became of the last process. If a start was intended after it, what is left over from that start
-/// decides.
+/// Returns what became of the last process. If a start was intended after it, and this boot is known, what is left over
+/// from that start decides.
 fn found_over(found: Fate, over: Option<Leftover>, boot: Option<&BootId>) -> Fate
     // A process that was found or is left over has a number of at least 1. If the fate is known, this boot is known,
     // and a process that lives began in it.
