@@ -1,4 +1,5 @@
 //! The traces of services, as a client reads them.
+use cmd_base::check_file;
 use std::alloc::Allocator;
 use std::io::{Error, ErrorKind, Read};
 use std::{fs, io};

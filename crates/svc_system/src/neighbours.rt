@@ -2,6 +2,7 @@
 use crate::folder::FileId;
 use crate::processes::{OwnRun, path_of_process};
 use arrayvec::ArrayVec;
+use cmd_base::read_front;
 use std::alloc::{AllocError, Global};
 use std::fs::{File, Files};
 use std::sync::{Mutex, Wait};
