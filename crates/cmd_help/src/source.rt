@@ -4,4 +4,4 @@
 pub(crate) const KIT: &str = "rattle-kit-13f logic dac8208d650f15bf";
 
 /// The sum of its sources, as packaging/source-sum says it.
-pub(crate) const SOURCE: &str = "43ad943a48f5f5ec3df9587f29a7d95c3c66dc558792415830ca3f317d554735";
+pub(crate) const SOURCE: &str = "a5b1a2dd6f42ebd271e1b4a14e5f0596de44967f107a78e2f30887d775913215";

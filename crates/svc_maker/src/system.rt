@@ -22,13 +22,13 @@ use std::time::Clock;
 use std::{io, process};
 use svc_door::Door;
 use svc_house::{ControlSender, Notifier};
-use svc_record::{Fate, Left, Leftover, Place};
+use svc_record::{Left, Leftover, Place};
 use svc_system::{
     AdoptionWatch, ChildReaper, Flow, FolderFault, LoggerInput, Neighbours, OutputEnds, OwnRun,
     Patience, ServiceFolder, SignalShell, Streams, Surroundings, SystemChildren, drain, is_read,
     open_output, prepare_outputs,
 };
-use svc_world::ChildWorld;
+use svc_world::{ChildWorld, Takeover};
 use tai_status::{Cause, TimeSource};
 
 /// The folder of a service on this system, with its lock.
@@ -284,18 +284,11 @@ where
         let _ = folder.folder.remove_earlier();
         let (mut children, reaper) = self.children(folder, name, streams, notifier)?;
         let own = &self.shared.own;
-        let (place, is_open, adopted) = match &left.process {
-            Fate::Lives(process) => {
-                children.try_adopt(process.pid, process.tick)?;
-                let place = own.vacant().occupied(process.pid, process.tick);
-                (place, false, Some(process.pid))
-            }
-            Fate::Gone | Fate::Unknown => match folder.folder.intended(own) {
-                Some(place) => (place, true, None),
-                None => (own.vacant(), false, None),
-            },
-        };
-        let world = ChildWorld::new(children, own.session, place, is_open, adopted);
+        let taken = Takeover::of(&own.vacant(), &left.process, folder.folder.intended(own));
+        if let Some(process) = &taken.adopted {
+            children.try_adopt(process.pid, process.tick)?;
+        }
+        let world = ChildWorld::new(children, own.session, &taken);
         match Box::new(self.alloc, world) {
             Ok(world) => Ok((world, PartReaper { reaper })),
             Err(refused) => Err(AllocError::from(refused).into()),

@@ -1,6 +1,6 @@
 -- The process of a service that was started last, the line that records it, and what became of it.
-use Rattle.std.specs.Prelude.{◌≡◌, ◌≢◌, ◌<◌, ◌^◌, ℕ, ⊤, List, ◌++◌, codes, decimal, length, Option, Some}
-use Rattle.std.specs.Prelude.{None}
+use Rattle.std.specs.Prelude.{◌≡◌, ◌≢◌, ◌<◌, ◌==◌, ◌^◌, ℕ, ⊤, Bool, false, List, ◌++◌, codes, decimal, length}
+use Rattle.std.specs.Prelude.{Option, Some, None}
 use Rattle.std.specs.Borrow.{Bor}
 use Rattle.svc_record.specs.declared.process.ProcessId.{ProcessId}
 use Rattle.svc_record.specs.declared.process.Fate.{Fate}
@@ -22,6 +22,11 @@ pub record IsProcess (process : ProcessId) : Type 0 where
 abbrev pub IsLiving : Fate → Type 0
 IsLiving (Lives process) = 0 < process.pid
 IsLiving other = ⊤
+
+-- whether a process is alive in its boot, if the process that now has its number began at this tick, or there is none
+abbrev pub is_alive : ProcessId → (tick : Option ℕ) → Bool
+is_alive process None = false
+is_alive process (Some tick) = tick == process.tick
 
 -- What became of the recorded process. It is alive exactly if it began in this boot, and the process that now has its
 -- number began at its tick. A process of another boot shows nothing, and nor does no process.

@@ -111,6 +111,24 @@ pub fn read_process(text: &[u8]) -> Option<ProcessId>
     }
 }
 
+impl ProcessId {
+    ghost use Rattle.std.specs.Prelude.{◌≡◌, ◌≢◌, true, false, Some};
+    ghost use Rattle.svc_record.specs.Process.{is_alive};
+
+    /// Returns whether this process is alive in its boot. `tick` is when the process that now has its number began, if
+    /// there is one.
+    pub fn is_alive(&self, tick: Option<u64>) -> bool
+        ensures alive { result ≡ is_alive self.now tick }
+        ensures same { result ≡ true → tick ≡ Some self.now.tick }
+        ensures other { result ≡ false → tick ≢ Some self.now.tick }
+    {
+        match tick {
+            Some(tick) => tick == self.tick,
+            None => false,
+        }
+    }
+}
+
 /// Returns what became of the recorded process. `boot` is this boot. `tick` is when the process that now has its number
 /// began, if there is one.
 pub fn find(recorded: Option<ProcessId>, boot: &BootId, tick: Option<u64>) -> Fate
@@ -122,7 +140,7 @@ pub fn find(recorded: Option<ProcessId>, boot: &BootId, tick: Option<u64>) -> Fa
     let its_boot = process.boot;
     if its_boot != *boot {
         Fate::Unknown
-    } else if tick == Some(process.tick) {
+    } else if process.is_alive(tick) {
         Fate::Lives(process)
     } else {
         Fate::Gone

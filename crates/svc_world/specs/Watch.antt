@@ -19,7 +19,7 @@ use Rattle.svc_record.specs.Moments.{moment_text}
 use Rattle.svc_record.specs.declared.counts.Counts.{Counts}
 use Rattle.svc_record.specs.declared.moment.Moment.{Moment}
 use Rattle.svc_record.specs.Counts.{counts_text, no_counts, one_started}
-use Rattle.svc_record.specs.Process.{process_line}
+use Rattle.svc_record.specs.Process.{is_alive, process_line}
 use Rattle.svc_record.specs.Place.{finish_in, intending, occupied, place_line, process_in, vacated, wanting}
 use Rattle.svc_record.specs.Leftover.{IsAwaited}
 use Rattle.svc_record.specs.declared.process.ProcessId.{ProcessId}
@@ -29,6 +29,7 @@ use Rattle.svc_record.specs.declared.leftover.Leftover.TheVariants.{Nobody, Proc
 use Rattle.svc_world.specs.declared.begin.Death.{Death}
 use Rattle.svc_world.specs.declared.begin.LastChild.{LastChild}
 use Rattle.svc_world.specs.declared.begin.LastChild.TheVariants.{Gone, Alive, Dead, Held}
+use Rattle.svc_world.specs.declared.takeover.Takeover.{Takeover}
 use Rattle.svc_world.specs.declared.paper.Owed.{Owed}
 use Rattle.svc_world.specs.declared.paper.Paper.{Paper}
 use Rattle.svc_world.specs.declared.paper.Paper.TheVariants as paper
@@ -78,16 +79,15 @@ abbrev pub child_of : (child : Option ℕ) → LastChild
 child_of None = Gone
 child_of (Some pid) = Alive pid
 
--- a world that begins in this session, with this place and with this adopted process, or none; the place may be the
--- open intent of an earlier svscan
-abbrev pub begun : Option (List Call) → (session : ℕ) → Place → (is_open : Bool) → (adopted : Option ℕ) → Watch
-begun calls session place is_open adopted = record {
+-- a world that begins in this session with what it takes over
+abbrev pub begun : Option (List Call) → (session : ℕ) → Takeover → Watch
+begun calls session taken = record {
   calls = calls;
   session = session;
-  place = place;
-  is_open = is_open;
+  place = taken.place;
+  is_open = taken.is_open;
   answer = None;
-  child = child_of adopted;
+  child = child_of (option_map (λ process. process.pid) taken.adopted);
   status = None;
   exit = None;
   counts = no_counts;
@@ -318,48 +318,25 @@ pub record TakesUp (pid tick : ℕ) (label : Tai64n) (old new : Watch) : Type 0 
   pub adopts : Adopts pid tick old adopted
   pub records : RecordsStart (Some pid) (answered (Some pid) label adopted) new
 
--- It was sought whether a `finish` that began at this tick has run for as long as it may.
-pub record SeeksLate (tick : ℕ) (late : Bool) (old new : Watch) : Type 0 where
-  pub calls : ExtendedWhileKept old.calls new.calls (SoughtLate tick late ∷ [])
-  pub stands : new ≡ record old { calls = new.calls }
+-- what is asked to bound a `finish`: it is sought whether its time is over; if it is, the tick is sought at which the
+-- process with its number began; only if that is its own, KILL is sent, right after that
+abbrev pub bound_calls : ProcessId → (late : Bool) → (tick : Option ℕ) → List Call
+bound_calls process false tick = SoughtLate process.tick false ∷ []
+bound_calls process true tick =
+    SoughtLate process.tick true ∷ SoughtTick process.pid tick
+    ∷ (if is_alive process tick then Signalled sig.KILL process.pid ∷ [] else [])
 
--- This process got KILL.
-pub record Kills (pid : ℕ) (old new : Watch) : Type 0 where
-  pub calls : ExtendedWhileKept old.calls new.calls (Signalled sig.KILL pid ∷ [])
-  pub stands : new ≡ record old { calls = new.calls }
-
-abbrev pub KillsIf : Bool → (pid : ℕ) (old new : Watch) → Type 0
-KillsIf true pid old new = Kills pid old new
-KillsIf false pid old new = new ≡ old
-
--- whether a tick was found, and is this one
-abbrev pub is_tick : (tick : ℕ) → (found : Option ℕ) → Bool
-is_tick tick None = false
-is_tick tick (Some found) = found == tick
-
--- The process with the number of this one gets KILL only if it was just found to be this one, by the tick at which it
--- began.
-pub record KillsIfSame (process : ProcessId) (old new : Watch) : Type 0 where
-  pub tick : Option ℕ
-  pub sought : Watch
-  pub seeks : SeeksTick process.pid tick old sought
-  pub kills : KillsIf (is_tick process.tick tick) process.pid sought new
-
-abbrev pub KillsOnce : (late : Bool) (process : ProcessId) (old new : Watch) → Type 0
-KillsOnce true process old new = KillsIfSame process old new
-KillsOnce false process old new = new ≡ old
-
--- It was sought whether the time of this `finish` is over. Only if it is, the process gets KILL, if it is still there.
-pub record KillsIfLate (process : ProcessId) (old new : Watch) : Type 0 where
+-- This `finish` was bounded. Nothing else was done.
+pub record BoundsOne (process : ProcessId) (old new : Watch) : Type 0 where
   pub late : Bool
-  pub asked : Watch
-  pub asks : SeeksLate process.tick late old asked
-  pub kills : KillsOnce late process asked new
+  pub tick : Option ℕ
+  pub calls : ExtendedWhileKept old.calls new.calls (bound_calls process late tick)
+  pub stands : new ≡ record old { calls = new.calls }
 
 -- The `finish` in the place gets KILL if its time is over.
 abbrev pub Bounds : (finish : Option ProcessId) (old new : Watch) → Type 0
 Bounds None old new = new ≡ old
-Bounds (Some process) old new = KillsIfLate process old new
+Bounds (Some process) old new = BoundsOne process old new
 
 -- No process is spawned, since this one may still run: this is said, and the start fails. If it is a `finish`, it gets
 -- KILL if its time is over.

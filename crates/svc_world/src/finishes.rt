@@ -1,6 +1,4 @@
 //! How a service's `finish` runs after its child died.
-ghost use Rattle.std.specs.Prelude.{◌≡◌};
-ghost use Rattle.svc_world.specs.Watch.{is_tick};
 
 use crate::begin::LastChild;
 use crate::child_system::ChildSystem;
@@ -10,68 +8,28 @@ use sup_core::Sig;
 use svc_record::{Exit, ProcessId, exit_text};
 use tai_status::Label;
 
-/// Returns whether a tick was found, and is this one.
-fn is_tick(tick: u64, found: Option<u64>) -> bool
-    ensures { result ≡ is_tick tick found }
-{
-    match found {
-        Some(found) => found == tick,
-        None => false,
-    }
-}
-
 impl<C: ChildSystem + Drop> ChildWorld<C> {
     ghost use Rattle.std.specs.Prelude.{◌<◌, ◌≡◌, IfSome};
     ghost use Rattle.svc_record.specs.Exits.{exit_text};
     ghost use Rattle.svc_record.specs.Place.{finish_in};
     ghost use Rattle.svc_world.specs.Deaths.{BeginsFinish, EndsFinish, FinishesBy, FinishesIf, IntendsFinish};
     ghost use Rattle.svc_world.specs.Deaths.{SeeksEnd, SeeksFinish, SpawnsFinishIf, with_exit, with_finish};
-    ghost use Rattle.svc_world.specs.Watch.{Bounds, KillsIf, KillsIfLate, KillsIfSame, KillsOnce, SeeksLate, Writes};
+    ghost use Rattle.svc_world.specs.Watch.{Bounds, BoundsOne, Writes};
     ghost use Rattle.svc_world.specs.declared.paper.Paper.TheVariants as paper;
 
-    // Returns whether a `finish` that began at this tick has run for as long as it may.
-    fn seek_late(&mut self, tick: u64) -> bool
-        ensures { SeeksLate tick result self.old self.new }
+    // Sends KILL to a `finish` if its time is over. Sends nothing if another process has its number by now, or if the
+    // kernel can't be asked.
+    fn bound_one(&mut self, process: &ProcessId)
+        requires { 0 < process.now.pid }
+        ensures { BoundsOne process.now self.old self.new }
     {
-        self.system.is_late(tick)
-    }
-
-    // Sends KILL to the process with this number, if that is the process that is meant.
-    fn kill_if(&mut self, is_same: bool, pid: u32)
-        requires { 0 < pid }
-        ensures { KillsIf is_same pid self.old self.new }
-    {
-        if is_same {
-            self.system.signal(Sig::KILL, pid);
+        if !self.system.is_late(process.tick) {
+            return;
         }
-    }
-
-    // Sends KILL to a process. Sends nothing if another process has its number by now, or if the kernel can't be asked.
-    fn kill_if_same(&mut self, process: &ProcessId)
-        requires { 0 < process.now.pid }
-        ensures { KillsIfSame process.now self.old self.new }
-    {
-        let tick = self.seek_tick(process.pid);
-        self.kill_if(is_tick(process.tick, tick), process.pid);
-    }
-
-    // Sends KILL to a `finish`, once, or not if its time is not over.
-    fn kill_once(&mut self, late: bool, process: &ProcessId)
-        requires { 0 < process.now.pid }
-        ensures { KillsOnce late process.now self.old self.new }
-    {
-        if late {
-            self.kill_if_same(process);
+        let tick = self.system.tick(process.pid);
+        if process.is_alive(tick) {
+            self.system.signal(Sig::KILL, process.pid);
         }
-    }
-
-    // Sends KILL to a `finish` if its time is over.
-    fn kill_if_late(&mut self, process: &ProcessId)
-        requires { 0 < process.now.pid }
-        ensures { KillsIfLate process.now self.old self.new }
-    {
-        let late = self.seek_late(process.tick);
-        self.kill_once(late, process);
     }
 
     /// Sends KILL to the `finish` in the place, if there is one and its time is over.
@@ -79,7 +37,7 @@ impl<C: ChildSystem + Drop> ChildWorld<C> {
         ensures { Bounds (finish_in self.old.place) self.old self.new }
     {
         if let Some(process) = self.place.finish() {
-            self.kill_if_late(&process);
+            self.bound_one(&process);
         }
     }
 

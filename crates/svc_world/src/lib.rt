@@ -21,10 +21,12 @@ mod paper;
 mod papers;
 mod readiness;
 mod starts;
+mod takeover;
 mod world;
 
 pub use backoff::TICKS;
 pub use begin::{Death, LastChild};
 pub use child_system::ChildSystem;
 pub use paper::{Owed, Paper, Remark};
+pub use takeover::Takeover;
 pub use world::ChildWorld;

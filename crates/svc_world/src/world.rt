@@ -8,6 +8,7 @@ use crate::begin::LastChild;
 use crate::child_system::ChildSystem;
 use crate::paper::{Owed, Paper};
 use crate::starts::child_of;
+use crate::takeover::Takeover;
 use std::marker::Model;
 use std::time::Duration;
 use sup_core::Sig;
@@ -117,25 +118,18 @@ impl<C: ChildSystem + Drop> ChildWorld<C> {
     ghost use Rattle.std.specs.Prelude.{◌≡◌};
     ghost use Rattle.svc_world.specs.Watch.{CountsRecord, begun, with_status, with_want};
 
-    /// Makes the world over these children, for an svscan of this session. `place` is the place of the service as it is
-    /// on disk. If `is_open`, it is the intent of an earlier svscan, and something of that start may be left over.
-    /// `adopted` is the process that already runs for the service.
-    pub fn new(
-        system: C,
-        session: u64,
-        place: Place,
-        is_open: bool,
-        adopted: Option<u32>,
-    ) -> ChildWorld<C>
-        ensures { result ≡ begun (C.calls system) session place is_open adopted }
+    /// Makes the world over these children, for an svscan of this session that takes this over. The children already
+    /// look for the death of an adopted process.
+    pub fn new(system: C, session: u64, taken: &Takeover) -> ChildWorld<C>
+        ensures { result ≡ begun (C.calls system) session taken.now }
     {
         ChildWorld {
             system,
             session,
-            place,
-            is_open,
+            place: taken.place,
+            is_open: taken.is_open,
             answer: None,
-            child: child_of(adopted),
+            child: child_of(taken.adopted.map(|process| process.pid)),
             status: None,
             exit: None,
             counts: Counts::none(),
