@@ -13,3 +13,4 @@ pub mod Lines
 pub mod Stamping
 pub mod Laws
 pub mod Extended
+pub mod Words
