@@ -2827,6 +2827,216 @@ apart() {
   soon 'it starts again' 5 has_lines 2 d/alone/starts
 }
 
+# Whether a path is that of a file, and not of a link to one
+is_own_file() { [ -f "$1" ] && [ ! -L "$1" ]; }
+# Whether the service with the name of a file in supervise has that file
+has_own() { is_own_file "d/$1/supervise/$1"; }
+has_exit() { exit_says "$(cat "d/$1/starts") signal TERM" "d/$1"; }
+# into_fifo PATH: a FIFO takes the place of what is there
+into_fifo() { rm -f "$1" && mkfifo "$1"; }
+
+# A FIFO in supervise keeps neither svscan nor the service: to open it would be to wait for ever. Only as `lock` it is refused.
+fifos() {
+  local name names=(place process status exit ready earlier counts backoff trace)
+  for name in plain lock "${names[@]}"; do sleeper "d/$name"; done
+  for name in lock "${names[@]}"; do
+    mkdir "d/$name/supervise"
+    mkfifo "d/$name/supervise/$name"
+  done
+  start_session reported d
+  soon 'a service without one is up' 10 is_settled d/plain
+  soon 'all but one are up' 15 all_are is_settled "${names[@]/#/d/}"
+  for name in "${names[@]}"; do
+    so "$name: up" is_settled "d/$name"
+    is "$name: one start" 1 "$(count "d/$name/starts")"
+  done
+  soon 'files take the places of those that are always there' 10 all_are has_own place process status counts trace
+  for name in place process status counts trace; do so "$name: a file takes its place" has_own "$name"; done
+  soon 'lock: it is told' 10 holds '^svscan: lock: unable to supervise: Invalid argument$' reported
+  is 'lock: it does not start' no "$(exists d/lock/starts)"
+  is 'lock: it is not served' 100 "$(is_served d/lock; echo $?)"
+  so 'lock: what is there is not touched' test -p d/lock/supervise/lock
+  rm d/lock/supervise/lock
+  svc -a d/.svscan
+  soon 'lock: it is up once the FIFO is gone' 10 is_settled d/lock
+  is 'lock: one start' 1 "$(count d/lock/starts)"
+  svc -d "${names[@]/#/d/}"
+  soon 'd ends each' 10 all_are is_put_down "${names[@]/#/d/}"
+  soon 'how each ended is kept' 5 all_are has_exit "${names[@]}"
+  for name in "${names[@]}"; do
+    so "$name: down" is_put_down "d/$name"
+    so "$name: how it ended is kept" has_exit "$name"
+  done
+  svc -u d/ready d/backoff
+  soon 'u starts them anew' 8 all_are is_settled d/ready d/backoff
+  is 'the other one is as it was' "$(process d/plain)" "$(cat d/plain/starts)"
+  is 'nothing else was reported' 'svscan: lock: unable to supervise: Invalid argument' "$(sort -u reported)"
+}
+
+# The same over services that an svscan left which was killed: none waits, and none gets a second process.
+fifos_left() {
+  local name before names=(plain process place lock)
+  for name in "${names[@]}" both; do sleeper "d/$name"; done
+  start_session reported d
+  soon 'up' 10 all_are is_settled "${names[@]/#/d/}" d/both
+  before=$(for name in "${names[@]}"; do echo "$name $(process "d/$name") 1"; done)
+  kill -KILL "$svscan"
+  soon 'svscan is dead' 3 is_gone "$svscan"
+  into_fifo d/process/supervise/process
+  into_fifo d/place/supervise/place
+  into_fifo d/lock/supervise/lock
+  into_fifo d/both/supervise/process
+  into_fifo d/both/supervise/place
+  start_session reported2 d
+  soon 'a service without one is served' 10 is_served d/plain
+  soon 'all but one are served' 10 all_are is_served d/process d/place d/both
+  soon 'their processes are found' 10 all_are is_found plain process place both
+  for name in plain process place both; do
+    so "$name: served" is_served "d/$name"
+    so "$name: its process is found" is_found "$name"
+  done
+  soon 'lock: it is told' 10 holds '^svscan: lock: unable to supervise: Invalid argument$' reported2
+  so 'lock: its process runs on' lives "$(cat d/lock/starts)"
+  is 'lock: it is not served' 100 "$(is_served d/lock; echo $?)"
+  is 'no second copies' '' "$(copies_of "${names[@]}" both)"
+  rm d/lock/supervise/lock
+  svc -a d/.svscan
+  soon 'lock: it is served once the FIFO is gone' 10 is_served d/lock
+  soon 'lock: its process is found' 8 is_found lock
+  for name in "${names[@]}"; do
+    is "$name: the same process, started once" "$(grep "^$name " <<<"$before")" \
+      "$name $(process "d/$name") $(count "d/$name/starts")"
+  done
+  is 'both: started once' 1 "$(count d/both/starts)"
+  # Nothing but the record names the process of this one, and svscan may be unsure: it starts once that process is gone.
+  own "$(cat d/both/starts)" | xargs -r kill -KILL
+  svc -k "${names[@]/#/d/}"
+  soon 'each starts again' 10 all_are has_second "${names[@]}" both
+  soon 'up again' 10 all_are is_settled "${names[@]/#/d/}" d/both
+  for name in "${names[@]}" both; do is "$name: two starts" 2 "$(count "d/$name/starts")"; done
+  for name in process place; do so "$name: a file takes its place" has_own "$name"; done
+  is 'no second copies now' '' "$(copies_of "${names[@]}" both)"
+  is 'nothing else was reported' 'svscan: lock: unable to supervise: Invalid argument' \
+    "$(cat reported reported2 | grep -v "^svscan: both: process [0-9]* still runs\$" | sort -u)"
+}
+has_second() { has_lines 2 "d/$1/starts"; }
+
+# A setting that is no file, but a FIFO or a folder, is told as a bad text is, and does not count either.
+odd_settings() {
+  local kind name each=() names=(timeout-kill timeout-finish backoff notification-fd)
+  # TERM ends it only once there is a file go.
+  for name in fifo-timeout-kill folder-timeout-kill timed; do
+    service "d/$name" <<'END'
+trap 'echo TERM >>signals; [ ! -e go ] || exit 0' TERM
+echo $$ >>starts
+while :; do sleep 0.1; done
+END
+  done
+  echo 2 >d/timed/timeout-kill
+  sleeper d/plain
+  for kind in fifo folder; do
+    sleeper "d/$kind-timeout-finish"
+    finish "d/$kind-timeout-finish" <<'END'
+sed 's/.*) //' /proc/$$/stat | cut -d ' ' -f 20 >tick
+exec sleep 1000
+END
+    falls "d/$kind-backoff"
+    sleeper "d/$kind-notification-fd"
+    for name in "${names[@]}"; do each+=("d/$kind-$name"); done
+  done
+  for name in "${names[@]}"; do
+    mkfifo "d/fifo-$name/$name"
+    mkdir "d/folder-$name/$name"
+  done
+  start reported d
+  soon 'services without one are up' 10 all_are is_settled d/plain d/timed
+  soon 'all are served' 10 all_are is_served "${each[@]}"
+  for kind in fifo folder; do
+    for name in timeout-kill timeout-finish notification-fd; do soon "$kind $name: up" 8 is_settled "d/$kind-$name"; done
+    soon "$kind backoff: more than five starts" 20 has_lines 7 "d/$kind-backoff/starts"
+    is "$kind backoff: it does not wait" no "$(exists "d/$kind-backoff/supervise/backoff")"
+    is "$kind notification-fd: no FIFO is made" no "$(exists "d/$kind-notification-fd/supervise/notify")"
+    is "$kind notification-fd: its process has no other descriptors" "$(descriptors "$(process d/plain)")" \
+      "$(descriptors "$(process "d/$kind-notification-fd")")"
+  done
+  svc -d "${each[@]}"
+  for kind in fifo folder; do
+    soon "$kind timeout-kill: it gets TERM" 5 has_lines 1 "d/$kind-timeout-kill/signals"
+    soon "$kind notification-fd: d ends it" 5 is_put_down "d/$kind-notification-fd"
+    soon "$kind backoff: d ends it" 5 is_put_down "d/$kind-backoff"
+    soon "$kind timeout-finish: d ends it" 15 is_put_down "d/$kind-timeout-finish"
+    lies "$kind timeout-finish: 5 seconds count: ticks" 490 100000 \
+      "$(apart_ticks "$(cat "d/$kind-timeout-finish/tick")" self)"
+  done
+  # One whose time is 2 seconds is asked later, and gets KILL before.
+  svc -d d/timed
+  soon 'one with a time gets KILL' 10 is_put_down d/timed
+  for kind in fifo folder; do
+    so "$kind timeout-kill: it has no time" is_up "d/$kind-timeout-kill"
+    touch "d/$kind-timeout-kill/go"
+    svc -d "d/$kind-timeout-kill"
+    soon "$kind timeout-kill: d ends it" 5 is_put_down "d/$kind-timeout-kill"
+    is "$kind timeout-kill: no KILL" "$(cat "d/$kind-timeout-kill/starts") status 0" \
+      "$(cut -d ' ' -f 1-3 "d/$kind-timeout-kill/supervise/exit")"
+    is "$kind timeout-kill: it is told" \
+      "svscan: $kind-timeout-kill: timeout-kill is no number of seconds: it does not count" \
+      "$(grep "^svscan: $kind-timeout-kill: " reported | sort -u)"
+    is "$kind timeout-finish: it is told" \
+      "svscan: $kind-timeout-finish: timeout-finish is no number of seconds: 5 seconds count" \
+      "$(grep "^svscan: $kind-timeout-finish: " reported | sort -u)"
+    is "$kind backoff: it is told" \
+      "svscan: $kind-backoff: backoff is no number of seconds from 1 to 3600: it does not count" \
+      "$(grep "^svscan: $kind-backoff: " reported | sort -u)"
+    is "$kind notification-fd: it is told" \
+      "svscan: $kind-notification-fd: notification-fd is no number from 3 to 9: it does not count" \
+      "$(grep "^svscan: $kind-notification-fd: " reported | sort -u)"
+    is "$kind timeout-finish: one start" 1 "$(count "d/$kind-timeout-finish/starts")"
+  done
+  is 'nothing else was reported' 8 "$(sort -u reported | wc -l)"
+}
+
+# A link in supervise does not lead svscan to a file elsewhere.
+led_away() {
+  local name names=(place void lock empty)
+  for name in plain "${names[@]}"; do sleeper "d/$name"; done
+  for name in "${names[@]}"; do mkdir "d/$name/supervise"; done
+  seq -w 100 >far
+  cp far kept
+  ln -s "$PWD/far" d/place/supervise/place
+  ln -s "$PWD/nothing" d/void/supervise/place
+  echo kept >locked
+  chmod 644 locked
+  ln -s "$PWD/locked" d/lock/supervise/lock
+  ln -s "$PWD/made" d/empty/supervise/lock
+  is 'the file has 400 bytes' 400 "$(stat -c %s far)"
+  start reported d
+  soon 'up' 10 all_are is_settled d/plain d/place d/void
+  for name in lock empty; do
+    soon "$name: it is told" 10 holds "^svscan: $name: unable to supervise: Invalid argument\$" reported
+    is "$name: it does not start" no "$(exists "d/$name/starts")"
+    is "$name: it is not served" 100 "$(is_served "d/$name"; echo $?)"
+    so "$name: it is a link still" test -L "d/$name/supervise/lock"
+  done
+  svc -d d/place d/void
+  soon 'd' 5 all_are is_put_down d/place d/void
+  for name in place void; do
+    so "$name: a file takes the place of the link" is_own_file "d/$name/supervise/place"
+    is "$name: as long as any, for its owner alone" '160 600' "$(stat -c '%s %a' "d/$name/supervise/place")"
+    is "$name: one start" 1 "$(count "d/$name/starts")"
+  done
+  so 'place: what the link names has its bytes' cmp kept far
+  is 'place: and its mode' 644 "$(stat -c %a far)"
+  is 'void: what the link names is not made' no "$(exists nothing)"
+  is 'lock: what the link names has its mode and its bytes' '644 kept' "$(stat -c %a locked) $(cat locked)"
+  is 'empty: what the link names is not made' no "$(exists made)"
+  rm d/lock/supervise/lock d/empty/supervise/lock
+  svc -a d/.svscan
+  soon 'up once the links are gone' 10 all_are is_settled d/lock d/empty
+  for name in lock empty; do is "$name: a lock of its own" 600 "$(stat -c %a "d/$name/supervise/lock")"; done
+  is 'nothing else was reported' 'svscan: empty: unable to supervise: Invalid argument
+svscan: lock: unable to supervise: Invalid argument' "$(sort -u reported)"
+}
+
 # play SCENARIO: in a folder of its own
 play() {
   scenario=$1
@@ -2869,7 +3079,7 @@ play_all() {
 scenarios=(life modes_kept delegated exits endings finishes bounded_finish timed_kill timed_kill_left ready ready_left bridged backs_off backs_off_left killed_finish no_run links stubborn killed_service killed_svscan killed_early unnamed starved unwritten new_boot other_user earlier_record elsewhere changes twice names silent
   connections no_supervise unheard rounds untaken itself refused last_words upgraded unread ordered first_process two_services child begins_anew shortage
   descriptors_reported batches unchanged resting full_disk full_put_down placeless held_locks held_pair many_bytes raised_limit
-  odd_environment unreaped bounded_end no_folder folder_away apart)
+  odd_environment unreaped bounded_end no_folder folder_away apart fifos fifos_left odd_settings led_away)
 # These keep every processor busy, and have the machine for themselves.
 crowds=(killed_logger late_logger last_entries given_back many)
 shift
