@@ -1,9 +1,8 @@
 -- What `envdir` reads from the system, and the commands that it hands over.
-use Rattle.std.specs.Prelude.{◌≡◌, ◌≢◌, ℕ, nat_lt, ◌==◌, ◌&&◌, Bool, if◌then◌else◌, List, ◌∷◌, ◌++◌, length, All, map}
+use Rattle.std.specs.Prelude.{◌≡◌, ◌≢◌, ℕ, nat_lt, ◌==◌, ◌&&◌, Bool, if◌then◌else◌, List, ◌∷◌, ◌++◌, length, All}
 use Rattle.std.specs.Prelude.{Option, Some, None, IfSome, Result}
 use Rattle.std.specs.List.{position_or_len, before_first, after_first}
 use Rattle.std.specs.Str.{is_utf8}
-use Rattle.std.specs.Borrow.{Bor}
 use Rattle.std.specs.Process.{command_program, command_args, command_var, clears_env}
 use Rattle.std.specs.declared.process.command.Command.{Command}
 use Rattle.std.specs.declared.process.status.ExitStatus.{ExitStatus}

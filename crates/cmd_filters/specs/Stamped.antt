@@ -1,6 +1,5 @@
 -- How `tai64n` exits, by the tai64n page of daemontools (cr.yp.to/daemontools/tai64n.html).
-use Rattle.std.specs.Prelude.{◌≡◌, ◌≢◌, ℕ, List, [], ◌∷◌, codes, map, Option}
-use Rattle.std.specs.Borrow.{Bor}
+use Rattle.std.specs.Prelude.{◌≡◌, ◌≢◌, ℕ, List, [], ◌∷◌, codes, Option}
 use Rattle.tai_status.specs.Label.{Tai64n}
 use Rattle.tai_status.specs.Counted.{Device, Fails, Works, IsRead, Reports, device_report}
 use Rattle.tai_status.specs.Lines.{StampState, stamp_state, Stamps, StampsFront}

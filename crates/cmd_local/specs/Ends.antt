@@ -1,6 +1,5 @@
 -- How `tai64nlocal` ends: by the tai64nlocal page of daemontools (cr.yp.to/daemontools/tai64nlocal.html).
-use Rattle.std.specs.Prelude.{◌≡◌, ◌≢◌, ℕ, ℤ, List, [], ◌∷◌, codes, map}
-use Rattle.std.specs.Borrow.{Bor}
+use Rattle.std.specs.Prelude.{◌≡◌, ◌≢◌, ℕ, ℤ, List, [], ◌∷◌, codes}
 use Rattle.tai_status.specs.Counted.{Device, Fails, Works, Gives, Wrote, WroteFront, IsRead, Reports}
 use Rattle.tai_status.specs.Counted.{device_report}
 use Rattle.cmd_base.specs.Console.{Console, EndsWell, console}

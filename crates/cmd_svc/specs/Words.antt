@@ -1,9 +1,8 @@
 -- What the words of a svc command say, by the svc page of daemontools (cr.yp.to/daemontools/svc.html).
 -- Words, letters and bytes are lists of bytes.
 use Rattle.std.specs.Prelude.{◌≡◌, ℕ, ◌==◌, nat_le, Bool, true, not, ◌&&◌, if◌then◌else◌, List, [], ◌∷◌, length, drop}
-use Rattle.std.specs.Prelude.{slice_index, codes, bytes_eq, filter, map, flat_map, find, Option}
+use Rattle.std.specs.Prelude.{slice_index, codes, bytes_eq, filter, flat_map, find, Option}
 use Rattle.std.specs.List.{list_all, IsDistinct}
-use Rattle.std.specs.Borrow.{Bor}
 use Rattle.sup_core.specs.Rules.{is_letter}
 
 -- the word `--`

@@ -1,9 +1,8 @@
 -- What the words of a script ask for, by the multilog page of daemontools (cr.yp.to/daemontools/multilog.html). Words,
 -- patterns, paths and folders are lists of bytes.
 use Rattle.std.specs.Prelude.{ℕ, ◌+◌, ◌-◌, ◌*◌, ◌==◌, nat_le, nat_lt, Bool, true, false, ◌&&◌, ◌||◌, if◌then◌else◌}
-use Rattle.std.specs.Prelude.{List, [], ◌∷◌, length, map, bytes_eq, fold, unwrap_or, slice_get, Option, Some, None}
+use Rattle.std.specs.Prelude.{List, [], ◌∷◌, length, bytes_eq, fold, unwrap_or, slice_get, Option, Some, None}
 use Rattle.std.specs.Prelude.{Result, Ok, Err}
-use Rattle.std.specs.Borrow.{Bor}
 use Rattle.std.specs.List.{list_any, list_all, filter_map}
 use Rattle.std.specs.Option.{option_map}
 use Rattle.star_match.specs.Star.{has_adjacent_stars}

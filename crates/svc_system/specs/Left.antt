@@ -26,9 +26,10 @@ IsOfBoot boot Gone = IsSome boot
 IsOfBoot boot Unknown = ⊤
 
 -- What became of the last process, once it is known what is left over from a start that was intended after it. A
--- process that is left over is the last one. If nobody is left over, or it is not sure who is, the last process is
--- gone.
+-- recorded process that lives is the last one: no start is intended while it is known to live. Otherwise a process that
+-- is left over is the last one. If nobody is left over, or it is not sure who is, the last process is gone.
 abbrev pub found_over : Fate → Option Leftover → (boot : Option (List ℕ)) → Fate
+found_over (Lives process) over boot = Lives process
 found_over found (Some (Process pid tick)) (Some boot) = Lives (record { pid = pid; tick = tick; boot = boot })
 found_over found (Some over) (Some boot) = Gone
 found_over found over boot = found

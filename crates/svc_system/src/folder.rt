@@ -104,10 +104,7 @@ pub struct ServiceFolder {
 
 /// Returns whether a fault says that something is there from which no text can be read.
 fn is_unfit(fault: ErrorKind) -> bool {
-    matches!(
-        fault,
-        ErrorKind::InvalidInput | ErrorKind::PermissionDenied
-    )
+    matches!(fault, ErrorKind::InvalidInput | ErrorKind::PermissionDenied)
 }
 
 /// Returns whether somebody can execute a file with this mode.

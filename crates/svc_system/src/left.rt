@@ -46,8 +46,8 @@ fn find_in(recorded: Option<ProcessId>, boot: Option<&BootId>, tick: Option<u64>
     }
 }
 
-/// Returns what became of the last process. If a start was intended after it, and this boot is known, what is left over
-/// from that start decides.
+/// Returns what became of the last process. If it does not live, a start was intended after it, and this boot is known,
+/// what is left over from that start decides.
 fn found_over(found: Fate, over: Option<Leftover>, boot: Option<&BootId>) -> Fate
     // A process that was found or is left over has a number of at least 1. If the fate is known, this boot is known,
     // and a process that lives began in it.
@@ -59,16 +59,17 @@ fn found_over(found: Fate, over: Option<Leftover>, boot: Option<&BootId>) -> Fat
     ensures living { IsLiving result }
     ensures of_boot { IsOfBoot (option_copied boot.entry) result }
 
-    // What is left over decides nothing if this boot is not known.
+    // What is left over decides nothing if the last process lives, or if this boot is not known.
     ensures found { result ≡ found_over found over (option_copied boot.entry) }
 {
-    match (over, boot) {
-        (Some(Leftover::Process(pid, tick)), Some(boot)) => Fate::Lives(ProcessId {
+    match (found, over, boot) {
+        (Fate::Lives(process), _, _) => Fate::Lives(process),
+        (_, Some(Leftover::Process(pid, tick)), Some(boot)) => Fate::Lives(ProcessId {
             pid,
             tick,
             boot: *boot,
         }),
-        (Some(_), Some(_)) => Fate::Gone,
+        (_, Some(_), Some(_)) => Fate::Gone,
         _ => found,
     }
 }
@@ -89,7 +90,10 @@ impl ServiceFolder {
     fn has_process_of(&self, file: &str) -> bool
         requires { length file.now ≤ 23 }
     {
-        let Ok(record) = read_front::<HostRuntime, STATUS_FRONT>(&self.files, self.path(file).as_str()) else {
+        let Ok(record) = read_front::<HostRuntime, STATUS_FRONT>(
+            &self.files,
+            self.path(file).as_str(),
+        ) else {
             return false;
         };
         process_in(record.as_slice()).map_or(false, |pid| self.is_running(pid))
@@ -162,8 +166,12 @@ impl ServiceFolder {
         let place = self.place(own);
         let recorded = self.last_process(&place);
         let tick = match &recorded {
-            // If the kernel can't be asked, the process counts as alive.
-            Some(process) => tick_of(&self.files, process.pid).unwrap_or(Some(process.tick)),
+            // If the kernel can't be asked, the process counts as alive, unless a later start was intended.
+            Some(process) => tick_of(&self.files, process.pid).unwrap_or(if over.is_none() {
+                Some(process.tick)
+            } else {
+                None
+            }),
             None => None,
         };
         let found = find_in(recorded, own.boot.as_ref(), tick);

@@ -59,8 +59,8 @@ pub(crate) fn make_supervise<R: Files<File = File>>(
     }
 }
 
-/// Opens the existing file at a path this way. If something other than a file is there, such as a link or a FIFO, it is
-/// not opened, or the opened file is not used: to open it could wait, and a link could lead to the file of somebody else.
+/// Opens the existing file at a path this way. Refuses a link, a FIFO and anything else that is no file. To open a FIFO
+/// could wait. A link could lead to the file of somebody else.
 #[inline(never)]
 fn open_same<R: Files<File = File>>(
     runtime: &R,

@@ -1,6 +1,5 @@
 -- What the words of svscan ask for: `svscan [DIR [N]]`.
-use Rattle.std.specs.Prelude.{◌≡◌, ℕ, ◌<◌, ◌^◌, List, [], ◌∷◌, map, codes, decimal, Option, None, MatchOption}
-use Rattle.std.specs.Borrow.{Bor}
+use Rattle.std.specs.Prelude.{◌≡◌, ℕ, ◌<◌, ◌^◌, List, [], ◌∷◌, codes, decimal, Option, None, MatchOption}
 
 -- The word is the decimal text of a number of rounds, 1 to 4294967295.
 pub record ReportsRounds (word : List ℕ) (number : ℕ) : Type 0 where

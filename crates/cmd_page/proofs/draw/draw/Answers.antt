@@ -1,4 +1,4 @@
-use Rattle.std.proofs.Common.{rules, ◌≡◌, ◌++◌, ℕ, List, [], map}
+use Rattle.std.proofs.Common.{rules, ◌≡◌, ◌++◌}
 use Rattle.tai_status.specs.Words.{texts}
 use Rattle.cmd_page.specs.Escape.{escaped}
 use Rattle.cmd_page.specs.Page.{end_text, head_text, heading_text}
