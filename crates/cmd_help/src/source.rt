@@ -4,4 +4,4 @@
 pub(crate) const KIT: &str = "rattle-kit-13f logic dac8208d650f15bf";
 
 /// The sum of its sources, as packaging/source-sum says it.
-pub(crate) const SOURCE: &str = "a5b1a2dd6f42ebd271e1b4a14e5f0596de44967f107a78e2f30887d775913215";
+pub(crate) const SOURCE: &str = "061bbcb151600788539dd4afcaf18ff4b6ef92ff45c3d524f9156bd1e75356cd";
