@@ -318,8 +318,8 @@ pub record TakesUp (pid tick : ℕ) (label : Tai64n) (old new : Watch) : Type 0 
   pub adopts : Adopts pid tick old adopted
   pub records : RecordsStart (Some pid) (answered (Some pid) label adopted) new
 
--- what is asked to bound a `finish`: it is sought whether its time is over; if it is, the tick is sought at which the
--- process with its number began; only if that is its own, KILL is sent, right after that
+-- What is asked to bound a `finish`. It is sought whether its time is over. If it is, the tick is sought at which the
+-- process with its number began. Only if that is its own tick, KILL is sent, right after that.
 abbrev pub bound_calls : ProcessId → (late : Bool) → (tick : Option ℕ) → List Call
 bound_calls process false tick = SoughtLate process.tick false ∷ []
 bound_calls process true tick =
