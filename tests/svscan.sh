@@ -2873,9 +2873,10 @@ fifos() {
   is 'nothing else was reported' 'svscan: lock: unable to supervise: Invalid argument' "$(sort -u reported)"
 }
 
-# The same over services that an svscan left which was killed: none waits, and none gets a second process.
+# The same over services that an svscan left which was killed: none waits, and none gets a second process. Nor does one whose
+# place is missing.
 fifos_left() {
-  local name before names=(plain process place lock)
+  local name before names=(plain process place gone lock)
   for name in "${names[@]}" both; do sleeper "d/$name"; done
   start_session reported d
   soon 'up' 10 all_are is_settled "${names[@]/#/d/}" d/both
@@ -2884,14 +2885,15 @@ fifos_left() {
   soon 'svscan is dead' 3 is_gone "$svscan"
   into_fifo d/process/supervise/process
   into_fifo d/place/supervise/place
+  rm d/gone/supervise/place
   into_fifo d/lock/supervise/lock
   into_fifo d/both/supervise/process
   into_fifo d/both/supervise/place
   start_session reported2 d
   soon 'a service without one is served' 10 is_served d/plain
-  soon 'all but one are served' 10 all_are is_served d/process d/place d/both
-  soon 'their processes are found' 10 all_are is_found plain process place both
-  for name in plain process place both; do
+  soon 'all but one are served' 10 all_are is_served d/process d/place d/gone d/both
+  soon 'their processes are found' 10 all_are is_found plain process place gone both
+  for name in plain process place gone both; do
     so "$name: served" is_served "d/$name"
     so "$name: its process is found" is_found "$name"
   done
