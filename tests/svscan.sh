@@ -1168,27 +1168,40 @@ END
 }
 
 # If svscan has no descriptor left the kernel can't be asked of a process that it adopted: that lives on, and is not
-# started a second time. What ends meanwhile is found once there are descriptors again.
+# started a second time. What ends meanwhile is found once there are descriptors again. A finish whose time is over gets
+# KILL only then, since its number might be that of another process.
 starved() {
   local web hard
   sleeper d/web
   sleeper d/dies
+  sleeper d/late
+  finish d/late <<'END'
+echo $$ >>finishes
+exec sleep 1000
+END
+  echo 4 >d/late/timeout-finish
   start_session reported1 d
-  soon 'up' 10 all_are is_settled d/web d/dies
+  soon 'up' 10 all_are is_settled d/web d/dies d/late
   web=$(process d/web)
   kill -KILL "$svscan"
   soon 'svscan is dead' 3 is_gone "$svscan"
   start_session reported2 d
-  soon 'both are served' 10 all_are is_served d/web d/dies
+  soon 'all are served' 10 all_are is_served d/web d/dies d/late
   soon 'and adopted' 5 begins "d/web: up (pid $web)" d/web
   sleep 1.5
+  svc -k d/late
+  soon 'one finishes' 10 is_finishing d/late
+  soon 'its finish has begun' 5 has_lines 1 d/late/finishes
   hard=$(ulimit -Hn)
   prlimit --pid "$svscan" --nofile="3:$hard"
   kill -KILL "$(process d/dies)"
   sleep 8
   so 'it lives' lives "$web"
   is 'no second copy' 1 "$(count d/web/starts)"
+  so 'a finish whose time is over gets no KILL while the kernel can not be asked' lives "$(cat d/late/finishes)"
   prlimit --pid "$svscan" --nofile="$hard:$hard"
+  soon 'it gets KILL then, and the service starts' 15 has_lines 2 d/late/starts
+  is 'that finish is gone' '' "$(finishing d/late)"
   soon 'what ended meanwhile is started again' 15 has_lines 2 d/dies/starts
   is 'it is as it was' "d/web: up (pid $web) N seconds" "$(stat_line d/web)"
   svc -t d/web
