@@ -4,4 +4,4 @@
 pub(crate) const KIT: &str = "rattle-kit-13f logic dac8208d650f15bf";
 
 /// The sum of its sources, as packaging/source-sum says it.
-pub(crate) const SOURCE: &str = "01e648d2920b161f65c905c63489d6a0b1f5eabfa48f6930df23d7ec0560d22f";
+pub(crate) const SOURCE: &str = "8307cf6ee4a06e36729da35862039cc1ddd9528db82f886a35982477757e27b7";

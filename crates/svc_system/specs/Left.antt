@@ -25,6 +25,11 @@ IsOfBoot boot (Lives process) = boot ≡ Some process.boot
 IsOfBoot boot Gone = IsSome boot
 IsOfBoot boot Unknown = ⊤
 
+-- What became of the recorded process. If it is that of somebody else, nothing is known of the service's own.
+abbrev pub found_unless : (is_foreign : Bool) → Fate → Fate
+found_unless true found = Unknown
+found_unless false found = found
+
 -- What became of the last process, once it is known what is left over from a start that was intended after it. A
 -- recorded process that lives is the last one: no start is intended while it is known to live. Otherwise a process that
 -- is left over is the last one. If nobody is left over, or it is not sure who is, the last process is gone.

@@ -1,13 +1,13 @@
 //! What an earlier svscan left of a service, as its folder and the system say.
-ghost use Rattle.std.specs.Prelude.{◌<◌, ◌≡◌, ◌≤◌, IfSome, Some, length, option_copied, true};
+ghost use Rattle.std.specs.Prelude.{◌<◌, ◌≡◌, ◌≤◌, ℕ, IfSome, List, Option, Some, length, option_copied, true};
 ghost use Rattle.svc_record.specs.Leftover.{HasNumber, IsAwaited};
 ghost use Rattle.svc_record.specs.Process.{IsLiving};
 ghost use Rattle.svc_system.specs.Commands.{process_in};
-ghost use Rattle.svc_system.specs.Left.{IsFoundIn, IsOfBoot, found_over, is_starting_in, placed};
+ghost use Rattle.svc_system.specs.Left.{IsFoundIn, IsOfBoot, found_over, found_unless, is_starting_in, placed};
 
 use crate::folder::{FileId, ServiceFolder, is_one_file};
 use crate::neighbours::Near;
-use crate::processes::{OwnRun, path_of_process, see_all, tick_of};
+use crate::processes::{OwnRun, is_child, path_of_process, see_all, tick_of};
 use cmd_base::read_front;
 use std::alloc::Global;
 use std::fs;
@@ -44,6 +44,15 @@ fn find_in(recorded: Option<ProcessId>, boot: Option<&BootId>, tick: Option<u64>
         Some(boot) => find(recorded, boot, tick),
         None => Fate::Unknown,
     }
+}
+
+/// Returns what became of the recorded process. If it is that of somebody else, nothing is known of the service's own.
+fn found_unless(is_foreign: bool, found: Fate) -> Fate
+    ensures { result ≡ found_unless is_foreign found }
+    ensures living { IsLiving found → IsLiving result }
+    ensures of_boot { (boot : Option (List ℕ)) → IsOfBoot boot found → IsOfBoot boot result }
+{
+    if is_foreign { Fate::Unknown } else { found }
 }
 
 /// Returns what became of the last process. If it does not live, a start was intended after it, and this boot is known,
@@ -175,6 +184,7 @@ impl ServiceFolder {
             None => None,
         };
         let found = find_in(recorded, own.boot.as_ref(), tick);
+        let found = found_unless(self.is_foreign(own, &found), found);
         Left {
             record: self.record(),
             want: place.map_or(None, |place| Some(place.want)),
@@ -235,6 +245,29 @@ impl ServiceFolder {
             return find_any_here(&all).numbered();
         }
         find_leftover(&intent, &all).numbered()
+    }
+
+    /// Returns whether a process that lives and is recorded here belongs to somebody else. It does not run in this folder.
+    /// Either this svscan has started it, for another service, or the folder in which it runs names it too: the record
+    /// here was copied from there.
+    #[inline(never)]
+    fn is_foreign(&self, own: &OwnRun, found: &Fate) -> bool {
+        match found {
+            Fate::Lives(process) if !self.is_running(process.pid) => {
+                is_child(&self.files, process.pid, own.pid) || self.is_named_elsewhere(process)
+            }
+            _ => false,
+        }
+    }
+
+    /// Returns whether the folder in which a process runs names it as the process of its service.
+    #[inline(never)]
+    fn is_named_elsewhere(&self, process: &ProcessId) -> bool {
+        let path = path_of_process(process.pid, "cwd/supervise/process");
+        match read_front::<HostRuntime, 128>(&self.files, path.as_str()) {
+            Ok(line) => read_process(line.as_slice()) == Some(*process),
+            Err(_) => false,
+        }
     }
 
     /// Returns what is left over of a `finish` with this process.

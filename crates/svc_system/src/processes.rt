@@ -91,6 +91,14 @@ pub(crate) fn tick_of<S: StatSource>(processes: &S, pid: u32) -> io::Result<Opti
     }
 }
 
+/// Returns whether the process with this number is a child of the one with another number, as far as the kernel says.
+pub(crate) fn is_child<S: StatSource>(processes: &S, pid: u32, parent: u32) -> bool {
+    match processes.stat_of(pid) {
+        Ok(Some(stat)) => stat.is_child_of(parent),
+        _ => false,
+    }
+}
+
 /// Returns whether the process that began at this tick lives, from what was found for its number. If the kernel could
 /// not be asked, it counts as alive: if it were taken for dead, the service would be started twice.
 pub(crate) fn lives_by(found: io::Result<Option<Stat>>, tick: u64) -> bool

@@ -71,6 +71,13 @@ impl Stat {
         })
     }
 
+    /// Returns whether this number is that of the process's parent.
+    pub(crate) fn is_child_of(&self, parent: u32) -> bool
+        ensures { IsTrue result ↔ (self.now.parent ≡ parent) }
+    {
+        self.parent == u64::from(parent)
+    }
+
     /// Returns the tick at which the process began, if it lives.
     pub(crate) fn living_tick(&self) -> Option<u64>
         ensures { result ≡ living_tick self.now }
