@@ -4,4 +4,4 @@
 pub(crate) const KIT: &str = "rattle-kit-13f logic dac8208d650f15bf";
 
 /// The sum of its sources, as packaging/source-sum says it.
-pub(crate) const SOURCE: &str = "8307cf6ee4a06e36729da35862039cc1ddd9528db82f886a35982477757e27b7";
+pub(crate) const SOURCE: &str = "bf09c63ae8acb334fd3cf5f3469c34640cf67b8ef6c5fbf35858300ac58eff37";

@@ -48,7 +48,7 @@ fn find_in(recorded: Option<ProcessId>, boot: Option<&BootId>, tick: Option<u64>
 
 /// Returns what became of the recorded process. If it is that of somebody else, nothing is known of the service's own.
 fn found_unless(is_foreign: bool, found: Fate) -> Fate
-    ensures { result ≡ found_unless is_foreign found }
+    ensures found { result ≡ found_unless is_foreign found }
     ensures living { IsLiving found → IsLiving result }
     ensures of_boot { (boot : Option (List ℕ)) → IsOfBoot boot found → IsOfBoot boot result }
 {
