@@ -2936,6 +2936,50 @@ fifos_left() {
 }
 has_second() { has_lines 2 "d/$1/starts"; }
 
+# The copy of a folder has the records of another service. They adopt nobody: each service has a process of its own, and a
+# signal for the one does not reach the other. That is so if svscan runs, even if the process left its folder, and if the
+# next svscan finds the copy.
+copied() {
+  local web away name
+  sleeper d/web
+  service d/away <<'END'
+echo $$ >>starts
+cd /
+exec sleep 1000
+END
+  start_session reported1 d
+  soon 'up' 10 all_are is_settled d/web d/away
+  web=$(process d/web)
+  away=$(process d/away)
+  mkdir made
+  for name in web away; do
+    cp -a "d/$name" "made/a$name"
+    rm "made/a$name/starts"
+    mv "made/a$name" "d/a$name"
+  done
+  svc -a d/.svscan
+  soon 'copies start by themselves' 10 all_are is_settled d/aweb d/aaway
+  svc -dk d/aweb d/aaway
+  soon 'd and k end the copies' 5 all_are is_put_down d/aweb d/aaway
+  so 'the first one runs on' lives "$web"
+  so 'and the other one' lives "$away"
+  is 'each is the process of its service' "$web $away" "$(process d/web) $(process d/away)"
+  kill -KILL "$svscan"
+  soon 'svscan is dead' 3 is_gone "$svscan"
+  cp -a d/web d/again
+  rm d/again/starts
+  start_session reported2 d
+  soon 'all are served' 10 all_are is_served d/web d/away d/again
+  soon 'the copy starts by itself' 10 is_settled d/again
+  soon 'the first one is adopted' 5 begins "d/web: up (pid $web)" d/web
+  is 'the copy has a process of its own' "$(cat d/again/starts)" "$(process d/again)"
+  svc -dk d/again
+  soon 'd and k end it' 5 is_put_down d/again
+  so 'the first one runs on still' lives "$web"
+  is 'each start by itself' '1 1 1 1 1' \
+    "$(for name in web away aweb aaway again; do count "d/$name/starts"; done | paste -sd ' ')"
+}
+
 # A setting that is no file, but a FIFO or a folder, is told as a bad text is, and does not count either.
 odd_settings() {
   local kind name each=() names=(timeout-kill timeout-finish backoff notification-fd)
@@ -3094,7 +3138,7 @@ play_all() {
 scenarios=(life modes_kept delegated exits endings finishes bounded_finish timed_kill timed_kill_left ready ready_left bridged backs_off backs_off_left killed_finish no_run links stubborn killed_service killed_svscan killed_early unnamed starved unwritten new_boot other_user earlier_record elsewhere changes twice names silent
   connections no_supervise unheard rounds untaken itself refused last_words upgraded unread ordered first_process two_services child begins_anew shortage
   descriptors_reported batches unchanged resting full_disk full_put_down placeless held_locks held_pair many_bytes raised_limit
-  odd_environment unreaped bounded_end no_folder folder_away apart fifos fifos_left odd_settings led_away)
+  odd_environment unreaped bounded_end no_folder folder_away apart fifos fifos_left odd_settings led_away copied)
 # These keep every processor busy, and have the machine for themselves.
 crowds=(killed_logger late_logger last_entries given_back many)
 shift
