@@ -13,7 +13,7 @@
  * before the start, begins the child, and writes which process it is, how often it was started, and the record; and one
  * that waits for the child. As svscan does, it makes the sockets once all services were given to their threads. It has no
  * machine, no trace, and keeps nothing. After a TERM it ends each child, and writes what svscan writes of an end: the place
- * and the record three times, how the child ended, how often, and a trace. Then the sockets and both threads go. */
+ * once, the record three times, how the child ended, how often, and a trace. Then the sockets and both threads go. */
 #define _GNU_SOURCE
 #include <dirent.h>
 #include <errno.h>
@@ -167,30 +167,30 @@ static void put(const struct part *part, const char *name, const char *bytes, si
 	must(rename(beside, place), place);
 }
 
-/* The place of a part is written over, and then its record is replaced. */
-static void record(int place, const struct part *part, const char *status) {
-	char line[64] = {0};
+/* The place of a part is written over. */
+static void write_place(const struct part *part) {
+	char room[400], line[64] = {0};
+	int place = must(open(path(room, part->path, "supervise/place"), O_RDWR | O_CREAT | O_CLOEXEC, 0600), room);
 	must(pwrite(place, line, sizeof line, 0), "place");
-	put(part, "status", status, 20);
+	close(place);
 }
 
 /* The end of a part: TERM to its child, and once that is dead, what is written of it. */
 static void end_of(struct part *part, const char *status) {
 	char room[400], trace[500] = {0};
-	int place = must(open(path(room, part->path, "supervise/place"), O_RDWR | O_CREAT | O_CLOEXEC, 0600), room);
-	record(place, part, status);
+	write_place(part);
+	put(part, "status", status, 20);
 	kill(part->child, SIGTERM);
 	pthread_mutex_lock(&part->lock);
 	while (!part->is_dead) pthread_cond_wait(&part->begun, &part->lock);
 	pthread_mutex_unlock(&part->lock);
 	put(part, "exit", trace, 60);
 	put(part, "counts", "1 1\n", 4);
-	record(place, part, status);
-	record(place, part, status);
+	put(part, "status", status, 20);
+	put(part, "status", status, 20);
 	put(part, "trace", trace, sizeof trace);
 	unlink(path(room, part->path, "supervise/control"));
 	unlink(path(room, part->path, "supervise/ok"));
-	close(place);
 }
 
 /* What the thread of a part does: the record, the child, which process it is, how often it was started, the record. Then it

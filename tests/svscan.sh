@@ -1195,6 +1195,7 @@ END
   hard=$(ulimit -Hn)
   prlimit --pid "$svscan" --nofile="3:$hard"
   kill -KILL "$(process d/dies)"
+  # Nothing may happen in that time, in which the 5 seconds of the finish are over.
   sleep 8
   so 'it lives' lives "$web"
   is 'no second copy' 1 "$(count d/web/starts)"

@@ -12,8 +12,9 @@ use Rattle.scan_table.specs.Slots.{Row}
 use Rattle.svc_system.specs.declared.output.OutputEnds.{OutputEnds}
 use Rattle.svc_system.specs.declared.flow.Flow.{Flow}
 use Rattle.svc_system.specs.declared.flow.LoggerInput.{LoggerInput}
-use Rattle.svc_record.specs.declared.opening.Left.{Left}
 use Rattle.svc_system.specs.declared.folder.FolderFault.{FolderFault}
+use Rattle.svc_world.specs.declared.takeover.Remains.{Remains}
+use Rattle.svc_world.specs.declared.takeover.Takeover.{Takeover}
 use Rattle.svc_maker.specs.declared.part_system.NotAdmitted.{NotAdmitted}
 
 -- One call, with its result. The calls, in the order of the constructors:
@@ -23,8 +24,8 @@ use Rattle.svc_maker.specs.declared.part_system.NotAdmitted.{NotAdmitted}
 -- - A pipe was to be made. These are its two ends, or this is the fault.
 -- - The output of the service in the folder at a path was to be opened. These are its ends, or this is the fault.
 -- - The folder at a path was to be opened and locked, and it was, or this is the fault.
--- - This was found left of the service in the folder at a path.
--- - A world was to be made over the folder at a path, in which this was left. Messages use this name, and these ends of
+-- - This was found to remain of the service in the folder at a path.
+-- - A world was to be made over the folder at a path, to take this over. Messages use this name, and these ends of
 --   pipes are standard input and output. It was made, or this is the fault.
 -- - The part with this number was to be admitted to the door, with the sockets of the folder at a path. It was, or this
 --   is the fault.
@@ -43,8 +44,8 @@ pub data Call : Type 0 where
   MadePipe : (ends : Result (Arc PipeReader Global × LoggerInput) Cause) → Call
   OpenedOutput : (path : List ℕ) → (ends : Result OutputEnds FolderFault) → Call
   Opened : (path : List ℕ) → (fault : Option FolderFault) → Call
-  FoundLeft : (path : List ℕ) → (left : Left) → Call
-  MadeWorld : (path name : List ℕ) → (left : Left) → (input : Option (Arc PipeReader Global))
+  FoundRemains : (path : List ℕ) → (remains : Remains) → Call
+  MadeWorld : (path name : List ℕ) → (taken : Takeover) → (input : Option (Arc PipeReader Global))
       → (output : Option (Arc File Global)) → (fault : Option Cause) → Call
   Admitted : (number : ℕ) → (path : List ℕ) → (fault : Option Cause) → Call
   Dismissed : (number : ℕ) → (path : List ℕ) → Call
@@ -58,10 +59,10 @@ pub data Call : Type 0 where
   Drained : (input : PipeReader) → (bytes : ℕ) → Call
 
 -- the call for a world, with copies of these ends of pipes
-abbrev pub world_call : {A : Type 0} → (path name : List ℕ) (left : Left)
+abbrev pub world_call : {A : Type 0} → (path name : List ℕ) (taken : Takeover)
     (input : Option (Bor (Arc PipeReader Global))) (output : Option (Bor (Arc File Global))) (made : Result A Cause) → Call
-world_call path name left input output made =
-    MadeWorld path name left (option_copied input) (option_copied output) (result_err made)
+world_call path name taken input output made =
+    MadeWorld path name taken (option_copied input) (option_copied output) (result_err made)
 
 -- why a part was not admitted, if it was not
 abbrev pub why_refused : {A : Type 0} → Result A NotAdmitted → Option Cause

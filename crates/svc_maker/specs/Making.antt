@@ -19,13 +19,13 @@ use Rattle.svc_host.specs.declared.maker.PartFault.{PartFault}
 use Rattle.svc_host.specs.declared.maker.PartFault.TheVariants as part
 use Rattle.svc_house.specs.Calls.{ExtendedWhileKept}
 use Rattle.svc_system.specs.declared.folder.FolderFault.TheVariants.{Locked, NotOpened}
-use Rattle.svc_record.specs.declared.opening.Left.{Left}
 use Rattle.svc_record.specs.declared.opening.Opening.{Opening}
 use Rattle.svc_record.specs.Opening.{opening_left}
 use Rattle.svc_system.specs.declared.output.OutputEnds.{OutputEnds}
 use Rattle.svc_system.specs.declared.flow.LoggerInput.{LoggerInput}
 use Rattle.svc_system.specs.declared.flow.ServiceOutput.{ServiceOutput}
-use Rattle.svc_maker.specs.Calls.{Call, MadePipe, OpenedOutput, Opened, FoundLeft, MadeWorld, Admitted, Dismissed}
+use Rattle.svc_world.specs.declared.takeover.Remains.{Remains}
+use Rattle.svc_maker.specs.Calls.{Call, MadePipe, OpenedOutput, Opened, FoundRemains, MadeWorld, Admitted, Dismissed}
 use Rattle.svc_maker.specs.Calls.{KeptTrace}
 use Rattle.svc_maker.specs.Calls.{Allowed, OpenedOwn, Prepared, Recorded, WatchedOutputs}
 use Rattle.svc_maker.specs.Calls.{CountedBetween, Drained, EndedOutput, LookedAtInput}
@@ -97,24 +97,24 @@ abbrev pub plan_of : Making → (name : List ℕ) → PartId → Plan
 plan_of making name part =
     plan_at (part_path making.folder name part.role) (part_name name part.role) part making.pipes
 
--- the calls by which the world of a part was to be made, if this was left in its own folder
-abbrev pub world_made : Plan → Left → (fault : Option Cause) → List Call
-world_made plan left fault =
-    Opened plan.path None ∷ FoundLeft plan.path left
-    ∷ MadeWorld plan.path plan.name left plan.input plan.output fault ∷ []
+-- the calls by which the world of a part was to be made, if this remains in its own folder
+abbrev pub world_made : Plan → Remains → (fault : Option Cause) → List Call
+world_made plan remains fault =
+    Opened plan.path None ∷ FoundRemains plan.path remains
+    ∷ MadeWorld plan.path plan.name remains.taken plan.input plan.output fault ∷ []
 
--- How a part is set up by a plan: its folder is opened, what an earlier svscan left there is found, and its world is
--- made with that. The part begins as what was found says. If one step fails, the next is not tried. If there is no
--- memory, none is tried at all.
+-- How a part is set up by a plan: its folder is opened, what remains there after an earlier svscan is found, and a world
+-- is made that takes it over. The part begins as what was found says. If one step fails, the next is not tried. If there
+-- is no memory, none is tried at all.
 abbrev pub IsSetUp : Option MakeFault → Option Opening → Plan → (old new : Option (List Call)) → Type 0
 IsSetUp None opening plan old new =
-    (left : Left) × (opening ≡ Some (opening_left left))
-    × ExtendedWhileKept old new (world_made plan left None)
+    (remains : Remains) × (opening ≡ Some (opening_left remains.left))
+    × ExtendedWhileKept old new (world_made plan remains None)
 IsSetUp (Some why.NoRoom) opening plan old new = (opening ≡ None) × ExtendedWhileKept old new []
 IsSetUp (Some (why.Unopened fault)) opening plan old new =
     (opening ≡ None) × ExtendedWhileKept old new (Opened plan.path (Some fault) ∷ [])
 IsSetUp (Some (why.NoWorld cause)) opening plan old new =
-    (opening ≡ None) × ((left : Left) × ExtendedWhileKept old new (world_made plan left (Some cause)))
+    (opening ≡ None) × ((remains : Remains) × ExtendedWhileKept old new (world_made plan remains (Some cause)))
 
 -- the same for the result of setting up, by the plan for these
 abbrev pub SetsUpAt : {A : Type 0} → Result A MakeFault → (opening : A → Opening) → (path name : List ℕ) → PartId

@@ -7,8 +7,8 @@ use std::io::PipeReader;
 use std::sync::Arc;
 use svc_host::Reaper;
 use svc_house::{ControlSender, Notifier, World};
-use svc_record::Left;
 use svc_system::{Flow, FolderFault, LoggerInput, OutputEnds};
+use svc_world::{Remains, Takeover};
 use tai_status::Cause;
 
 /// What is given back if a part was not admitted to the door.
@@ -22,17 +22,22 @@ pub struct NotAdmitted {
 
 /// What the operating system does for the parts of services. Contracts see its calls (`MadeWhileKept`).
 pub trait PartSystem {
-    ghost use Rattle.std.specs.Prelude.{◌≡◌, Option, Some, None, List, [], string_bytes, IfOk, IfErr, OnOk};
+    ghost use Rattle.std.specs.Prelude.{◌≡◌, ⊤, Option, Some, None, List, [], string_bytes, IfOk, IfErr, OnOk};
     ghost use Rattle.std.specs.Result.{result_err};
     ghost use Rattle.svc_host.specs.Answers.{answered};
     ghost use Rattle.svc_house.specs.Calls.{MadeWhileKept};
     ghost use Rattle.svc_record.specs.Process.{IsLiving};
-    ghost use Rattle.svc_maker.specs.Calls.{Call, Allowed, MadePipe, OpenedOutput, Opened, FoundLeft, Admitted};
+    ghost use Rattle.svc_maker.specs.Calls.{Call, Allowed, MadePipe, OpenedOutput, Opened, FoundRemains, Admitted};
     ghost use Rattle.svc_maker.specs.Calls.{Dismissed, KeptTrace, OpenedOwn, Prepared, Recorded, WatchedOutputs};
     ghost use Rattle.svc_maker.specs.Calls.{CountedBetween, Drained, EndedOutput, LookedAtInput, why_refused};
     ghost use Rattle.svc_maker.specs.Calls.{world_call};
+    ghost use Rattle.svc_world.specs.Takeover.{AreOne};
+    ghost use Rattle.svc_world.specs.declared.takeover.Takeover.{Takeover};
 
     ghost calls: { Self → Option (List Call) } = { λ _. None };
+
+    // Whether a world has this taken over.
+    ghost HasTaken: { Self.World → Takeover → Type 0 } = { λ _ _. ⊤ };
 
     type Folder: LockedFolder + Drop;
 
@@ -82,26 +87,29 @@ pub trait PartSystem {
     fn watch_outputs(&mut self)
         ensures calls { MadeWhileKept calls WatchedOutputs self.old self.new };
 
-    /// Returns what an earlier svscan left of the service in a folder.
-    fn left(&mut self, folder: &Self::Folder) -> Left
-        ensures calls { MadeWhileKept calls (FoundLeft (Self.Folder.path folder.now) result) self.old self.new }
-        ensures process { IsLiving result.process };
+    /// Returns what remains of the service in a folder after an earlier svscan. The process with which the service begins
+    /// is the one that its world takes over.
+    fn remains(&mut self, folder: &Self::Folder) -> Remains
+        ensures calls { MadeWhileKept calls (FoundRemains (Self.Folder.path folder.now) result) self.old self.new }
+        ensures process { IsLiving result.left.process }
+        ensures one { AreOne result };
 
-    /// Makes the world of the service in a folder in which this was left, and the reaper of its processes. A fault
-    /// says why they can't be made. A process that is still alive is adopted. Each child gets copies of these ends of
-    /// pipes as standard input and output, and svscan's own if there is none. The ends are shared. The notifier is
-    /// notified if there is news. Messages about the service use this name.
+    /// Makes the world of the service in a folder, which takes this over, and the reaper of its processes. A fault
+    /// says why they can't be made. The world looks for the death of a process that it takes over. Each child gets copies
+    /// of these ends of pipes as standard input and output, and svscan's own if there is none. The ends are shared. The
+    /// notifier is notified if there is news. Messages about the service use this name.
     fn world(
         &mut self,
         folder: &Self::Folder,
         name: &str,
-        left: &Left,
+        taken: &Takeover,
         input: Option<&Arc<PipeReader, Global>>,
         output: Option<&Arc<File, Global>>,
         notifier: Arc<Notifier, Global>,
     ) -> Result<(Self::World, Self::Reaper), Cause>
-        ensures calls { MadeWhileKept calls (world_call (Self.Folder.path folder.now) name.now left.now
+        ensures calls { MadeWhileKept calls (world_call (Self.Folder.path folder.now) name.now taken.now
             input.entry output.entry result) self.old self.new }
+        ensures taken { IfOk result (λ made. HasTaken made.0 taken.now) }
         ensures fresh { IfOk result (λ made. answered (Self.World.calls made.0) ≡ []) };
 
     /// Admits a part to the door, with the sockets of its folder, or says why not. No other part there has this number.

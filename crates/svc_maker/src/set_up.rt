@@ -79,7 +79,7 @@ pub(crate) fn part_path(alloc: Global, folder: &str, name: &str) -> Result<Strin
     Ok(text)
 }
 
-/// Sets a part up: opens its folder, finds what an earlier svscan left there, and makes its world.
+/// Sets a part up: opens its folder, finds what remains there after an earlier svscan, and makes its world.
 pub(crate) fn set_up<S: PartSystem>(
     system: &mut S,
     path: String,
@@ -99,11 +99,12 @@ pub(crate) fn set_up<S: PartSystem>(
         Ok(folder) => folder,
         Err(fault) => return Err(MakeFault::Unopened(fault)),
     };
-    let left = system.left(&folder);
+    let remains = system.remains(&folder);
     let pair = pipes_of(pipes, part.slot);
     let input = input_of(pair, part.role);
     let output = output_of(pair, part.role);
-    let (world, reaper) = match system.world(&folder, name, &left, input, output, notifier) {
+    let taken = &remains.taken;
+    let (world, reaper) = match system.world(&folder, name, taken, input, output, notifier) {
         Ok(made) => made,
         Err(cause) => return Err(MakeFault::NoWorld(cause)),
     };
@@ -111,6 +112,6 @@ pub(crate) fn set_up<S: PartSystem>(
         folder,
         world,
         reaper,
-        opening: left.opening(),
+        opening: remains.left.opening(),
     })
 }

@@ -22,13 +22,13 @@ use std::time::Clock;
 use std::{io, process};
 use svc_door::Door;
 use svc_house::{ControlSender, Notifier};
-use svc_record::{Left, Leftover, Place};
+use svc_record::{Leftover, Place};
 use svc_system::{
     AdoptionWatch, ChildReaper, Flow, FolderFault, LoggerInput, Neighbours, OutputEnds, OwnRun,
     Patience, ServiceFolder, SignalShell, Streams, Surroundings, SystemChildren, drain, is_read,
     open_output, prepare_outputs,
 };
-use svc_world::{ChildWorld, Takeover};
+use svc_world::{ChildWorld, Remains, Takeover};
 use tai_status::{Cause, TimeSource};
 
 /// The folder of a service on this system, with its lock.
@@ -204,11 +204,15 @@ impl<R> PartSystem for SystemParts<R>
 where
     R: Files + Net + Processes<Started = SystemProcess> + Wait + Clock + Copy + Drop,
 {
+    ghost use Rattle.svc_world.specs.Watch as watch;
+
     type Folder = OpenFolder;
 
     type World = Box<ChildWorld<SystemChildren<R>>>;
 
     type Reaper = PartReaper;
+
+    ghost HasTaken = { λ world taken. watch.HasTaken world.value taken };
 
     fn set_allowed(&mut self, descriptors: u64) {
         self.allowed = descriptors;
@@ -263,19 +267,23 @@ where
         drop(self.unwatched.take());
     }
 
-    fn left(&mut self, folder: &OpenFolder) -> Left {
-        let over = match folder.folder.intended(&self.shared.own) {
-            Some(place) => Some(self.leftover(&folder.folder, &place)),
+    fn remains(&mut self, folder: &OpenFolder) -> Remains {
+        let own = self.shared.own;
+        let place = folder.folder.place(&own);
+        let intended = folder.folder.intended(&own, place);
+        let over = match &intended {
+            Some(place) => Some(self.leftover(&folder.folder, place)),
             None => None,
         };
-        folder.folder.left(&self.shared.own, over, self.clock.now())
+        let left = folder.folder.left(&own, place, over, self.clock.now());
+        Remains::of(&own.vacant(), left, intended)
     }
 
     fn world(
         &mut self,
         folder: &OpenFolder,
         name: &str,
-        left: &Left,
+        taken: &Takeover,
         input: Option<&Arc<PipeReader, Global>>,
         output: Option<&Arc<File, Global>>,
         notifier: Arc<Notifier, Global>,
@@ -283,12 +291,10 @@ where
         let streams = shared(input, output)?;
         let _ = folder.folder.remove_earlier();
         let (mut children, reaper) = self.children(folder, name, streams, notifier)?;
-        let own = &self.shared.own;
-        let taken = Takeover::of(&own.vacant(), &left.process, folder.folder.intended(own));
         if let Some(process) = &taken.adopted {
             children.try_adopt(process.pid, process.tick)?;
         }
-        let world = ChildWorld::new(children, own.session, &taken);
+        let world = ChildWorld::new(children, self.shared.own.session, taken);
         match Box::new(self.alloc, world) {
             Ok(world) => Ok((world, PartReaper { reaper })),
             Err(refused) => Err(AllocError::from(refused).into()),

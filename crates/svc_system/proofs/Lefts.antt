@@ -5,7 +5,7 @@ use Rattle.svc_record.specs.Process.{IsLiving}
 use Rattle.svc_record.specs.declared.process.ProcessId.{ProcessId}
 use Rattle.svc_record.specs.declared.process.Fate.{Fate}
 use Rattle.svc_record.specs.declared.process.Fate.TheVariants.{Unknown, Gone, Lives}
-use Rattle.svc_system.specs.Left.{IsFoundIn, IsOfBoot}
+use Rattle.svc_system.specs.Fates.{IsFoundIn, IsOfBoot}
 
 -- a process that was found to live has a number
 pub found_living : (recorded : Option ProcessId) (boot : Option (List ℕ)) (tick : Option ℕ) (found : Fate)

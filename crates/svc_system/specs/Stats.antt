@@ -46,6 +46,11 @@ living_tick stat = if stat.has_died then None else Some stat.tick
 abbrev pub LivesSince : (tick : ℕ) → Option Stat → (found : Bool) → Type 0
 LivesSince tick reported found = IsTrue found ↔ (option_and_then living_tick reported ≡ Some tick)
 
+-- A process was found that has this parent.
+abbrev pub IsChildOf : (parent : ℕ) → Option Stat → Type 0
+IsChildOf parent None = ⊥
+IsChildOf parent (Some stat) = stat.parent ≡ parent
+
 -- the process with this number, as a look at all processes sees it
 abbrev pub seen_as : (pid : ℕ) → Stat → Seen
 seen_as pid stat = record {

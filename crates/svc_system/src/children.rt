@@ -66,7 +66,8 @@ enum ReadySource {
     Known(Label),
 }
 
-/// The children of one service on this system. It says nothing to contracts, except that a child has a number.
+/// The children of one service on this system. It says nothing to contracts, except that a child has a number, and the
+/// death of which adopted process it looks for.
 #[derive(Drop)]
 pub struct SystemChildren<R>
 where
@@ -94,6 +95,7 @@ where
     R: Processes<Started = SystemProcess> + Wait + Clock + Copy + Drop,
 {
     ghost use Rattle.std.specs.Prelude.{◌≤◌, length};
+    ghost use Rattle.svc_system.specs.Adoption.{IsSource};
 
     /// Makes the children of the service with this name in this folder, and their reaper, which must run in a thread of
     /// its own: it finds their deaths, and notifies the notifier after each one.
@@ -130,7 +132,9 @@ where
 
     /// Adopts the process that already runs for the service. A look for its death finds that it is gone. The notifier
     /// is notified once that is so. If the process is ready, or says so later, that is found too.
-    pub fn try_adopt(&mut self, pid: u32, tick: u64) -> Result<(), AllocError> {
+    pub fn try_adopt(&mut self, pid: u32, tick: u64) -> Result<(), AllocError>
+        ensures watched { IsSource self.new.death pid tick }
+    {
         self.ready = self.ready_of(pid);
         let process = AdoptedProcess {
             files: self.files,
@@ -375,6 +379,10 @@ impl<R> ChildSystem for SystemChildren<R>
 where
     R: Processes<Started = SystemProcess> + Wait + Clock + Copy + Drop,
 {
+    ghost use Rattle.svc_system.specs.Adoption.{IsSource};
+
+    ghost Watches = { λ children pid tick. IsSource children.death pid tick };
+
     #[inline(never)]
     fn spawn(&mut self) -> Option<u32> {
         self.death = DeathSource::None;

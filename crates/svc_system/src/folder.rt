@@ -3,7 +3,7 @@
 //! A call of the file system keeps its path on the stack, with room for the longest path, and the thread of a service
 //! never gives back the stack that it has touched. Each function that makes such calls therefore has a frame of its
 //! own, which is gone before the next call.
-ghost use Rattle.std.specs.Prelude.{◌↔◌, ◌≤◌, IsTrue, length};
+ghost use Rattle.std.specs.Prelude.{◌≡◌, ◌↔◌, ◌≤◌, [], IfErr, IfOk, IfSome, IsTrue, Some, length};
 ghost use Rattle.svc_system.specs.Left.{IsOneFile};
 
 use crate::access::{Access, given};
@@ -69,13 +69,17 @@ pub(crate) struct FileId {
 }
 
 impl FileId {
-    /// Returns the id of the file that has this metadata. Returns None if nothing was found.
-    pub(crate) fn found(found: io::Result<Metadata>) -> Option<FileId> {
-        let found = found.ok()?;
-        Some(FileId {
+    /// Returns the id of the file that has this metadata.
+    pub(crate) fn of(found: &Metadata) -> FileId {
+        FileId {
             device: found.dev(),
             inode: found.ino(),
-        })
+        }
+    }
+
+    /// Returns the id of the file that was found. Returns None if none was.
+    pub(crate) fn found(found: io::Result<Metadata>) -> Option<FileId> {
+        Some(FileId::of(&found.ok()?))
     }
 }
 
@@ -105,6 +109,19 @@ pub struct ServiceFolder {
 /// Returns whether a fault says that something is there from which no text can be read.
 fn is_unfit(fault: ErrorKind) -> bool {
     matches!(fault, ErrorKind::InvalidInput | ErrorKind::PermissionDenied)
+}
+
+/// Returns the text of a setting, if there is one, after its file was read. What is no file, or may not be read, has no
+/// text.
+fn text_of_setting(read: io::Result<SettingText>) -> Option<SettingText>
+    ensures read { IfOk read (λ text. result ≡ Some text) }
+    ensures unread { IfErr read (λ _. IfSome result (λ text. text.items ≡ [])) }
+{
+    match read {
+        Ok(text) => Some(text),
+        Err(fault) if is_unfit(fault.kind()) => Some(SettingText::new()),
+        Err(_) => None,
+    }
 }
 
 /// Returns whether somebody can execute a file with this mode.
@@ -390,11 +407,7 @@ impl ServiceFolder {
     pub(crate) fn setting(&self, name: &str) -> Option<SettingText>
         requires { length name.now ≤ 23 }
     {
-        match read_front::<HostRuntime, SETTING_BYTES>(&self.files, self.path(name).as_str()) {
-            Ok(text) => Some(text),
-            Err(fault) if is_unfit(fault.kind()) => Some(SettingText::new()),
-            Err(_) => None,
-        }
+        text_of_setting(read_front(&self.files, self.path(name).as_str()))
     }
 
     /// Returns why nobody can execute `run`, if that shows without an attempt.

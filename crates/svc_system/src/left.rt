@@ -1,19 +1,22 @@
 //! What an earlier svscan left of a service, as its folder and the system say.
-ghost use Rattle.std.specs.Prelude.{◌<◌, ◌≡◌, ◌≤◌, ℕ, IfSome, List, Option, Some, length, option_copied, true};
+ghost use Rattle.std.specs.Prelude.{◌<◌, ◌≡◌, ◌≤◌, IfSome, None, Some, length, option_map, true};
 ghost use Rattle.svc_record.specs.Leftover.{HasNumber, IsAwaited};
+ghost use Rattle.svc_record.specs.Place.{AreOfOneRun, intending};
 ghost use Rattle.svc_record.specs.Process.{IsLiving};
 ghost use Rattle.svc_system.specs.Commands.{process_in};
-ghost use Rattle.svc_system.specs.Left.{IsFoundIn, IsOfBoot, found_over, found_unless, is_starting_in, placed};
+ghost use Rattle.svc_system.specs.Fates.{IsOfBoot};
+ghost use Rattle.svc_system.specs.Left.{intent_in, is_starting_in, placed};
 
+use crate::fates::{ProcessReports, finish_fate, last_fate};
 use crate::folder::{FileId, ServiceFolder, is_one_file};
 use crate::neighbours::Near;
-use crate::processes::{OwnRun, is_child, path_of_process, see_all, tick_of};
+use crate::processes::{OwnRun, StatSource, is_child_by, path_of_process, see_all, tick_of};
 use cmd_base::read_front;
 use std::alloc::Global;
-use std::fs;
+use std::{fs, io};
 use svc_record::{
-    BootId, Fate, Intent, Left, Leftover, PLACE_BYTES, Place, ProcessId, find, find_any_here,
-    find_leftover, first_line, read_place, read_process,
+    Intent, Left, Leftover, PLACE_BYTES, Place, ProcessId, find_any_here, find_leftover,
+    first_line, read_place, read_process,
 };
 use tai_status::{Label, Loaded, Phase, STATUS_FRONT, decode_front};
 
@@ -35,54 +38,6 @@ fn is_starting(recorded: &Option<Loaded>) -> bool
     }
 }
 
-/// Returns what became of the recorded process. `boot` is this boot, if it is known. `tick` is when the process that
-/// has its number now began, if there is one.
-fn find_in(recorded: Option<ProcessId>, boot: Option<&BootId>, tick: Option<u64>) -> Fate
-    ensures { IsFoundIn recorded (option_copied boot.entry) tick result }
-{
-    match boot {
-        Some(boot) => find(recorded, boot, tick),
-        None => Fate::Unknown,
-    }
-}
-
-/// Returns what became of the recorded process. If it is that of somebody else, nothing is known of the service's own.
-fn found_unless(is_foreign: bool, found: Fate) -> Fate
-    ensures found { result ≡ found_unless is_foreign found }
-    ensures living { IsLiving found → IsLiving result }
-    ensures of_boot { (boot : Option (List ℕ)) → IsOfBoot boot found → IsOfBoot boot result }
-{
-    if is_foreign { Fate::Unknown } else { found }
-}
-
-/// Returns what became of the last process. If it does not live, a start was intended after it, and this boot is known,
-/// what is left over from that start decides.
-fn found_over(found: Fate, over: Option<Leftover>, boot: Option<&BootId>) -> Fate
-    // A process that was found or is left over has a number of at least 1. If the fate is known, this boot is known,
-    // and a process that lives began in it.
-    requires living { IsLiving found }
-    requires of_boot { IsOfBoot (option_copied boot) found }
-    requires over { IfSome over HasNumber }
-
-    // This is also true of the result.
-    ensures living { IsLiving result }
-    ensures of_boot { IsOfBoot (option_copied boot.entry) result }
-
-    // What is left over decides nothing if the last process lives, or if this boot is not known.
-    ensures found { result ≡ found_over found over (option_copied boot.entry) }
-{
-    match (found, over, boot) {
-        (Fate::Lives(process), _, _) => Fate::Lives(process),
-        (_, Some(Leftover::Process(pid, tick)), Some(boot)) => Fate::Lives(ProcessId {
-            pid,
-            tick,
-            boot: *boot,
-        }),
-        (_, Some(_), Some(_)) => Fate::Gone,
-        _ => found,
-    }
-}
-
 /// Returns the process that a place names, if it names one.
 fn placed(place: &Option<Place>) -> Option<ProcessId>
     ensures named { result ≡ placed place.now }
@@ -91,6 +46,52 @@ fn placed(place: &Option<Place>) -> Option<ProcessId>
     match place {
         Some(place) => place.process(),
         None => None,
+    }
+}
+
+/// Returns the place that was read, if it is from this run of the system. A text that is no valid line of a place counts
+/// as an intent about which nothing more is known. `vacant` is the place of a service that was not started in this run.
+fn place_of_run(read: Option<Place>, vacant: &Place) -> Option<Place>
+    ensures run { IfSome result (λ place. AreOfOneRun place vacant.now) }
+    ensures read { IfSome read (λ place. AreOfOneRun place vacant.now → result ≡ Some place) }
+    ensures unread { read ≡ None → result ≡ Some (intending vacant.now 1 0) }
+{
+    match read {
+        Some(place) if place.is_of_run(vacant) => Some(place),
+        Some(_) => None,
+        None => Some(vacant.intending_unknown()),
+    }
+}
+
+/// Returns the start that a place intends, if it intends one.
+fn intent_in(place: Place) -> Option<Place>
+    ensures { result ≡ intent_in place }
+{
+    if place.is_intent() { Some(place) } else { None }
+}
+
+/// What the kernel and the folders report about the process of a service, to this svscan.
+#[derive(Drop)]
+struct SystemReports<'a> {
+    folder: &'a ServiceFolder,
+    own: &'a OwnRun,
+}
+
+impl<'a> ProcessReports for SystemReports<'a> {
+    fn tick(&self, process: &ProcessId) -> io::Result<Option<u64>> {
+        tick_of(&self.folder.files, process.pid)
+    }
+
+    fn runs_here(&self, process: &ProcessId) -> bool {
+        self.folder.is_running(process.pid)
+    }
+
+    fn is_child(&self, process: &ProcessId) -> bool {
+        is_child_by(self.folder.files.stat_of(process.pid), self.own.pid)
+    }
+
+    fn is_named_there(&self, process: &ProcessId) -> bool {
+        self.folder.is_named_elsewhere(process)
     }
 }
 
@@ -133,23 +134,14 @@ impl ServiceFolder {
         read_process(line.as_slice())
     }
 
-    /// Returns what `supervise/place` says, if it is from this run of the system. Text that is not a valid line of a
-    /// place counts as an intent about which nothing more is known.
-    fn place(&self, own: &OwnRun) -> Option<Place> {
+    /// Returns what `supervise/place` says, if it is from this run of the system.
+    pub fn place(&self, own: &OwnRun) -> Option<Place> {
         let path = self.path("supervise/place");
         let text = read_front::<HostRuntime, PLACE_BYTES>(&self.files, path.as_str()).ok()?;
-        if text.is_empty() {
+        if text.is_empty() || own.boot.is_none() {
             return None;
         }
-        if own.boot.is_none() {
-            return None;
-        }
-        let vacant = own.vacant();
-        match read_place(first_line(text.as_slice())) {
-            Some(place) if place.is_of_run(&vacant) => Some(place),
-            Some(_) => None,
-            None => Some(vacant.intending_unknown()),
-        }
+        place_of_run(read_place(first_line(text.as_slice())), &own.vacant())
     }
 
     /// Returns the process that the place names. If the place names none, returns the one recorded at the last start.
@@ -163,41 +155,38 @@ impl ServiceFolder {
         }
     }
 
-    /// Returns what an earlier svscan left of the service, in this run of the system, at this time. `over` is what is
-    /// left over from a start that the earlier svscan intended, if it did.
-    #[tactic(auto, using(crate::proofs::Lefts::found_living, crate::proofs::Lefts::found_of_boot))]
-    pub fn left(&self, own: &OwnRun, over: Option<Leftover>, label: Label) -> Left
+    /// Returns what an earlier svscan left of the service, in this run of the system, at this time. `place` is what
+    /// `place` returned. `over` is what is left over from the start that it intends, if it intends one.
+    pub fn left(
+        &self,
+        own: &OwnRun,
+        place: Option<Place>,
+        over: Option<Leftover>,
+        label: Label,
+    ) -> Left
         requires over { IfSome over HasNumber }
+        ensures want { result.want ≡ option_map (λ place. place.want) place }
         ensures living { IsLiving result.process }
         ensures boot { IsOfBoot own.now.boot result.process }
         ensures label { result.label ≡ label }
     {
-        let place = self.place(own);
+        let reports = SystemReports { folder: self, own };
         let recorded = self.last_process(&place);
-        let tick = match &recorded {
-            // If the kernel can't be asked, the process counts as alive, unless a later start was intended.
-            Some(process) => tick_of(&self.files, process.pid).unwrap_or(if over.is_none() {
-                Some(process.tick)
-            } else {
-                None
-            }),
-            None => None,
-        };
-        let found = find_in(recorded, own.boot.as_ref(), tick);
-        let found = found_unless(self.is_foreign(own, &found), found);
         Left {
             record: self.record(),
-            want: place.map_or(None, |place| Some(place.want)),
-            process: found_over(found, over, own.boot.as_ref()),
+            want: place.map(|place| place.want),
+            process: last_fate(&reports, recorded, over, own.boot.as_ref()),
             label,
         }
     }
 
-    /// Returns the start that an earlier svscan intended and for which no process is recorded, if there is one.
-    pub fn intended(&self, own: &OwnRun) -> Option<Place> {
-        match self.place(own) {
-            Some(place) if place.is_intent() => Some(place),
-            Some(_) => None,
+    /// Returns the start that an earlier svscan intended and for which no process is recorded, if there is one. `place`
+    /// is what `place` returned.
+    pub fn intended(&self, own: &OwnRun, place: Option<Place>) -> Option<Place>
+        ensures placed { IfSome place (λ place. result ≡ intent_in place) }
+    {
+        match place {
+            Some(place) => intent_in(place),
             None if self.has_unplaced() => Some(own.vacant().intending_unknown()),
             None => None,
         }
@@ -247,19 +236,6 @@ impl ServiceFolder {
         find_leftover(&intent, &all).numbered()
     }
 
-    /// Returns whether a process that lives and is recorded here belongs to somebody else. It does not run in this folder.
-    /// Either this svscan has started it, for another service, or the folder in which it runs names it too: the record
-    /// here was copied from there.
-    #[inline(never)]
-    fn is_foreign(&self, own: &OwnRun, found: &Fate) -> bool {
-        match found {
-            Fate::Lives(process) if !self.is_running(process.pid) => {
-                is_child(&self.files, process.pid, own.pid) || self.is_named_elsewhere(process)
-            }
-            _ => false,
-        }
-    }
-
     /// Returns whether the folder in which a process runs names it as the process of its service.
     #[inline(never)]
     fn is_named_elsewhere(&self, process: &ProcessId) -> bool {
@@ -277,9 +253,8 @@ impl ServiceFolder {
         ensures awaited { IsAwaited result }
         ensures number { HasNumber result }
     {
-        // If the kernel can't be asked, the process counts as alive.
-        let tick = tick_of(&self.files, process.pid).unwrap_or(Some(process.tick));
-        Leftover::of_finish(find_in(Some(process), own.boot.as_ref(), tick))
+        let tick = tick_of(&self.files, process.pid);
+        Leftover::of_finish(finish_fate(process, own.boot.as_ref(), tick))
     }
 
     /// Returns whether this file is the standard output of a process.

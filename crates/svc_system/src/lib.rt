@@ -13,6 +13,7 @@ mod adoption;
 mod child_reaper;
 mod children;
 mod commands;
+mod fates;
 mod flow;
 mod folder;
 mod left;

@@ -1,8 +1,8 @@
 //! Files and folders for the owner alone, whatever the umask is, and whatever has their name.
 use crate::access::Access;
-use crate::folder::{FileId, is_one_file};
+use crate::folder::FileId;
 use std::alloc::Global;
-use std::fs::{DirBuilder, File, Files, OpenOptions, Permissions};
+use std::fs::{DirBuilder, File, Files, Metadata, OpenOptions, Permissions};
 use std::io::{Error, ErrorKind, Write};
 use std::os::unix::fs::{DirBuilderExt, FileExt, OpenOptionsExt, PermissionsExt};
 use std::{fs, io};
@@ -59,21 +59,22 @@ pub(crate) fn make_supervise<R: Files<File = File>>(
     }
 }
 
-/// Opens the existing file at a path this way. Refuses a link, a FIFO and anything else that is no file. To open a FIFO
-/// could wait. A link could lead to the file of somebody else.
+/// Opens the existing file at a path this way. Returns it with its metadata. Refuses a link, a FIFO and anything else that
+/// is no file. To open a FIFO could wait. A link could lead to the file of somebody else.
 #[inline(never)]
 fn open_same<R: Files<File = File>>(
     runtime: &R,
     how: &OpenOptions,
     path: &str,
-) -> io::Result<File> {
+) -> io::Result<(File, Metadata)> {
     let there = fs::symlink_metadata(runtime, path)?;
     if !there.is_file() {
         return Err(Error::from(ErrorKind::InvalidInput));
     }
     let file = how.open(runtime, path)?;
-    if is_one_file(FileId::found(Ok(there)), FileId::found(file.metadata())) {
-        Ok(file)
+    let opened = file.metadata()?;
+    if FileId::of(&there) == FileId::of(&opened) {
+        Ok((file, opened))
     } else {
         Err(Error::from(ErrorKind::InvalidInput))
     }
@@ -85,13 +86,15 @@ fn open_or_make<R: Files<File = File>>(runtime: &R, path: &str) -> io::Result<Fi
     how.append(true);
     match open_same(runtime, &how, path) {
         Err(fault) if fault.kind() == ErrorKind::NotFound => {}
-        opened => return opened,
+        opened => return Ok(opened?.0),
     }
     let mut make = OpenOptions::new();
     make.append(true).create_new(true).mode(FILE_MODE);
     match make.open(runtime, path) {
         // Another svscan has made it just now.
-        Err(fault) if fault.kind() == ErrorKind::AlreadyExists => open_same(runtime, &how, path),
+        Err(fault) if fault.kind() == ErrorKind::AlreadyExists => {
+            Ok(open_same(runtime, &how, path)?.0)
+        }
         made => made,
     }
 }
@@ -145,8 +148,8 @@ pub(crate) fn overwrite<R: Files<File = File>>(
 ) -> io::Result<()> {
     let mut how = OpenOptions::new();
     how.write(true);
-    let file = open_same(runtime, &how, path)?;
-    if file.metadata()?.len() < least {
+    let (file, opened) = open_same(runtime, &how, path)?;
+    if opened.len() < least {
         return Err(Error::from(ErrorKind::UnexpectedEof));
     }
     file.write_all_at(content, 0)

@@ -1,7 +1,8 @@
 //! Processes of this system that are not children of this one.
-ghost use Rattle.std.specs.Prelude.{◌≡◌, ◌<◌, ◌≤◌, length, take, option_and_then, false, true, IfErr, IfOk, IfSome};
+ghost use Rattle.std.specs.Prelude.{◌≡◌, ◌↔◌, ◌<◌, ◌≤◌, length, take, option_and_then, false, true};
+ghost use Rattle.std.specs.Prelude.{IfErr, IfOk, IfSome, IsTrue};
 ghost use Rattle.svc_system.specs.Commands.{path_of_process};
-ghost use Rattle.svc_system.specs.Stats.{LivesSince, living_tick};
+ghost use Rattle.svc_system.specs.Stats.{IsChildOf, LivesSince, living_tick};
 
 use crate::folder::ShortPath;
 use crate::neighbours::Near;
@@ -91,9 +92,13 @@ pub(crate) fn tick_of<S: StatSource>(processes: &S, pid: u32) -> io::Result<Opti
     }
 }
 
-/// Returns whether the process with this number is a child of the one with another number, as far as the kernel says.
-pub(crate) fn is_child<S: StatSource>(processes: &S, pid: u32, parent: u32) -> bool {
-    match processes.stat_of(pid) {
+/// Returns whether a process is a child of the one with this number, from what was found for it. If the kernel could not
+/// be asked, it does not count as one.
+pub(crate) fn is_child_by(found: io::Result<Option<Stat>>, parent: u32) -> bool
+    ensures asked { IfOk found (λ stat. IsTrue result ↔ IsChildOf parent stat) }
+    ensures unasked { IfErr found (λ _. result ≡ false) }
+{
+    match found {
         Ok(Some(stat)) => stat.is_child_of(parent),
         _ => false,
     }

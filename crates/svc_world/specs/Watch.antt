@@ -22,6 +22,7 @@ use Rattle.svc_record.specs.Counts.{counts_text, no_counts, one_started}
 use Rattle.svc_record.specs.Process.{is_alive, process_line}
 use Rattle.svc_record.specs.Place.{finish_in, intending, occupied, place_line, process_in, vacated, wanting}
 use Rattle.svc_record.specs.Leftover.{IsAwaited}
+use Rattle.svc_record.specs.Opening.{is_want}
 use Rattle.svc_record.specs.declared.process.ProcessId.{ProcessId}
 use Rattle.svc_record.specs.declared.place.Place.{Place}
 use Rattle.svc_record.specs.declared.leftover.Leftover.{Leftover}
@@ -79,7 +80,7 @@ abbrev pub child_of : (child : Option ℕ) → LastChild
 child_of None = Gone
 child_of (Some pid) = Alive pid
 
--- a world that begins in this session with what it takes over
+-- A world that begins in this session with what it takes over. Its place is still to be written.
 abbrev pub begun : Option (List Call) → (session : ℕ) → Takeover → Watch
 begun calls session taken = record {
   calls = calls;
@@ -95,10 +96,14 @@ begun calls session taken = record {
   backoff = None;
   ends = [];
   is_asked = false;
-  owed = nothing_owed;
+  owed = with_owed paper.Place true nothing_owed;
   is_said = false;
   unwritten = 0;
 }
+
+-- A world has this taken over, and nothing else.
+abbrev pub HasTaken : Watch → Takeover → Type 0
+HasTaken w taken = w ≡ begun w.calls w.session taken
 
 -- Papers
 
@@ -413,9 +418,17 @@ abbrev pub CountsUnwritten : (written : Bool) → ℕ → ℕ → Type 0
 CountsUnwritten true old new = new ≡ old
 CountsUnwritten false old new = Rose old new
 
--- a world whose place has what this status record says is wanted
+-- the papers that are owed once this is wanted: the place too, if that is not what was wanted before
+abbrev pub owed_wanting : (want before : Want) → Owed → Owed
+owed_wanting want before owed = if is_want want before then owed else with_owed paper.Place true owed
+
+-- a world in which this is wanted
+abbrev pub wanted : Want → Watch → Watch
+wanted want w = record w { place = wanting w.place want; owed = owed_wanting want w.place.want w.owed }
+
+-- a world in which this status record says what is wanted
 abbrev pub with_want : (bytes : List ℕ) → Watch → Watch
-with_want bytes w = with_place (wanting w.place (want_loaded (loaded_from bytes) w.place.want)) w
+with_want bytes w = wanted (want_loaded (loaded_from bytes) w.place.want) w
 
 -- the last child, if the start after it waits no longer
 abbrev pub released : LastChild → LastChild
@@ -431,12 +444,12 @@ pub record CountsRecord (written : Bool) (old new : Watch) : Type 0 where
   pub counts : CountsUnwritten written old.unwritten new.unwritten
   pub stands : new ≡ record old { unwritten = new.unwritten }
 
--- A status record is to be written, once, and before it the place with what is wanted now. A record that can't be
--- written is counted and owed, and has no other effect.
+-- A status record is to be written, once, and before it the place, if it is owed: what is wanted is new, or an earlier
+-- write failed. A record that can't be written is counted and owed, and has no other effect.
 pub record Records (bytes : List ℕ) (old new : Watch) : Type 0 where
   pub placed : Watch
   pub done : Watch
   pub written : Bool
-  pub place : Writes paper.Place (place_line (with_want bytes old).place) (with_want bytes old) placed
+  pub place : WritesAgain paper.Place (with_want bytes old) placed
   pub status : WritesAs paper.Status bytes written (with_status bytes placed) done
   pub counts : CountsRecord written done new

@@ -8,7 +8,7 @@ use tai_status::Label;
 /// The children, papers and clock of one service. Contracts see the calls and their results, in order (`calls`), while
 /// they are recorded. A system that has no memory for more calls stops recording them, and does not resume.
 pub trait ChildSystem {
-    ghost use Rattle.std.specs.Prelude.{◌≡◌, ◌<◌, ◌≤◌, true, Option, None, List, IfSome, length};
+    ghost use Rattle.std.specs.Prelude.{◌≡◌, ◌<◌, ◌≤◌, ⊤, ℕ, true, Option, None, List, IfSome, length};
     ghost use Rattle.svc_house.specs.Calls.{MadeWhileKept};
     ghost use Rattle.svc_world.specs.Calls.{Call, Spawned, SoughtDeath, Lingered, Signalled, Wrote, Said};
     ghost use Rattle.svc_world.specs.Calls.{SoughtLeftover, Adopted, SoughtLate, SoughtTick, ReadTick, ReadClock};
@@ -16,6 +16,9 @@ pub trait ChildSystem {
     ghost use Rattle.svc_record.specs.Leftover.{HasNumber, IsAwaited};
 
     ghost calls: { Self → Option (List Call) } = { λ _. None };
+
+    // Whether `death` looks for the death of the process with this number, which began at this tick.
+    ghost Watches: { Self → ℕ → ℕ → Type 0 } = { λ _ _ _. ⊤ };
 
     /// Makes a child that runs the service, and returns its number. Returns None if no child could be made at all.
     fn spawn(&mut self) -> Option<u32>
@@ -83,7 +86,8 @@ pub trait ChildSystem {
     /// Adopts the process with this number, which began at this tick: from now on `death` looks for its death.
     fn adopt(&mut self, pid: u32, tick: u64)
         requires { 0 < pid }
-        ensures calls { MadeWhileKept calls (Adopted pid tick) self.old self.new };
+        ensures calls { MadeWhileKept calls (Adopted pid tick) self.old self.new }
+        ensures watched { Watches self.new pid tick };
 
     /// Returns the tick of the kernel's clock at which the process with this number began. Returns None if there is no
     /// such process.

@@ -28,5 +28,5 @@ pub use backoff::TICKS;
 pub use begin::{Death, LastChild};
 pub use child_system::ChildSystem;
 pub use paper::{Owed, Paper, Remark};
-pub use takeover::Takeover;
+pub use takeover::{Remains, Takeover};
 pub use world::ChildWorld;

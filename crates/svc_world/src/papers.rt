@@ -103,8 +103,8 @@ impl<C: ChildSystem + Drop> ChildWorld<C> {
         self.write_paper(Paper::Backoff, line.as_slice());
     }
 
-    // Writes a paper again, if it is owed.
-    fn write_again(&mut self, paper: Paper)
+    /// Writes a paper again, if it is owed.
+    pub(crate) fn write_again(&mut self, paper: Paper)
         ensures { WritesAgain paper self.old self.new }
     {
         let owed = self.owed.has(paper);

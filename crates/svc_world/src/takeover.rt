@@ -1,5 +1,5 @@
 //! What the world of a service takes over from an earlier svscan.
-use svc_record::{Fate, Place, ProcessId};
+use svc_record::{Fate, Left, Place, ProcessId};
 
 /// What the world of a service takes over from an earlier svscan.
 #[derive(Clone, Copy, Debug, PartialEq, Eq)]
@@ -14,12 +14,13 @@ pub struct Takeover {
 
 impl Takeover {
     ghost use Rattle.std.specs.Prelude.{◌≡◌, true, None};
-    ghost use Rattle.svc_world.specs.Takeover.{taken_over};
+    ghost use Rattle.svc_world.specs.Takeover.{living, taken_over};
 
     /// Returns what is taken over, by what became of the recorded process and by the start that the earlier svscan
     /// intended. `vacant` is the place of a service that was not started yet.
     pub fn of(vacant: &Place, process: &Fate, intended: Option<Place>) -> Takeover
         ensures all { result ≡ taken_over vacant.now process.now intended }
+        ensures adopted { result.adopted ≡ living process.now }
         ensures one { result.is_open ≡ true → result.adopted ≡ None }
     {
         match (process, intended) {
@@ -38,6 +39,33 @@ impl Takeover {
                 is_open: false,
                 adopted: None,
             },
+        }
+    }
+}
+
+/// What remains of a service after an earlier svscan.
+#[derive(Clone, Copy, Debug, PartialEq, Eq)]
+pub struct Remains {
+    /// How the service begins follows from this.
+    pub left: Left,
+    /// What its world takes over.
+    pub taken: Takeover,
+}
+
+impl Remains {
+    ghost use Rattle.std.specs.Prelude.{◌≡◌};
+    ghost use Rattle.svc_world.specs.Takeover.{AreOne, taken_over};
+
+    /// Returns what remains, by what was left and by the start that the earlier svscan intended. `vacant` is the place of
+    /// a service that was not started yet.
+    pub fn of(vacant: &Place, left: Left, intended: Option<Place>) -> Remains
+        ensures left { result.left ≡ left }
+        ensures taken { result.taken ≡ taken_over vacant.now left.process intended }
+        ensures one { AreOne result }
+    {
+        Remains {
+            left,
+            taken: Takeover::of(vacant, &left.process, intended),
         }
     }
 }

@@ -1,6 +1,6 @@
 //! The world of one service, over its children.
 ghost use Rattle.std.specs.Prelude.{◌≡◌};
-ghost use Rattle.svc_world.specs.Watch.{released, want_loaded};
+ghost use Rattle.svc_world.specs.Watch.{owed_wanting, released, want_loaded};
 ghost use Rattle.tai_status.specs.Loading.{loaded_from};
 
 use crate::backoff::{Ends, asks_end};
@@ -31,6 +31,8 @@ const LINGERING_REST: u64 = 3;
 /// The intent is written before a child is spawned, and no child is spawned if it can't be written. A start that spawns
 /// no child leaves no intent. What is left over from a start that an earlier svscan intended is adopted if it is sure
 /// which process that is. While that is not sure, no child is spawned.
+///
+/// The place also has what is wanted, and is on disk before a status record that wants something else.
 ///
 /// Each paper that can't be written is owed: `mend` tries again to write it, with its content at that time. It says
 /// once that something is owed, and once that all is written.
@@ -114,13 +116,24 @@ fn want_in(bytes: &[u8; 20], before: Want) -> Want
     }
 }
 
+/// Returns which papers are owed once this is wanted, in place of what was wanted before.
+fn owed_wanting(owed: Owed, want: Want, before: Want) -> Owed
+    ensures { result ≡ owed_wanting want before owed }
+{
+    match (want, before) {
+        (Want::Up, Want::Up) | (Want::Down, Want::Down) | (Want::Once, Want::Once) => owed,
+        _ => owed.with(Paper::Place, true),
+    }
+}
+
 impl<C: ChildSystem + Drop> ChildWorld<C> {
-    ghost use Rattle.std.specs.Prelude.{◌≡◌};
+    ghost use Rattle.std.specs.Prelude.{◌≡◌, IfSome};
     ghost use Rattle.svc_world.specs.Watch.{CountsRecord, begun, with_status, with_want};
 
     /// Makes the world over these children, for an svscan of this session that takes this over. The children already
-    /// look for the death of an adopted process.
+    /// look for the death of an adopted process. The place is written before the first status record.
     pub fn new(system: C, session: u64, taken: &Takeover) -> ChildWorld<C>
+        requires watched { IfSome taken.now.adopted (λ process. C.Watches system process.pid process.tick) }
         ensures { result ≡ begun (C.calls system) session taken.now }
     {
         ChildWorld {
@@ -137,7 +150,7 @@ impl<C: ChildSystem + Drop> ChildWorld<C> {
             backoff: None,
             ends: Ends::none(),
             is_asked: false,
-            owed: Owed::nothing(),
+            owed: Owed::nothing().with(Paper::Place, true),
             is_said: false,
             unwritten: 0,
         }
@@ -157,11 +170,13 @@ impl<C: ChildSystem + Drop> ChildWorld<C> {
         self.owed
     }
 
-    // Sets in the place what a status record says is wanted.
+    // Sets in the place what a status record says is wanted. If that is new, the place is owed.
     fn set_want(&mut self, bytes: &[u8; 20])
         ensures { self.new ≡ with_want bytes.now self.old }
     {
-        self.place = self.place.wanting(want_in(bytes, self.place.want));
+        let want = want_in(bytes, self.place.want);
+        self.owed = owed_wanting(self.owed, want, self.place.want);
+        self.place = self.place.wanting(want);
     }
 
     // Sets the status record. The next start waits no longer.
@@ -218,12 +233,13 @@ impl<C: ChildSystem + Drop> World for ChildWorld<C> {
         self.start_by(found, label);
     }
 
-    /// Writes the status record. Before it, writes the place with what is wanted now. The next start waits no longer.
+    /// Writes the status record. Before it, writes the place if what is wanted is new, or if the place is owed. The next
+    /// start waits no longer.
     fn write(&mut self, bytes: &[u8; 20])
         ensures { Records bytes.now self.old self.new }
     {
         self.set_want(bytes);
-        self.write_place();
+        self.write_again(Paper::Place);
         self.set_status(bytes);
         let written = self.write_paper(Paper::Status, bytes);
         self.count_record(written);
