@@ -27,7 +27,7 @@ ghost use Rattle.cmd_envdir.specs.Ends.{
 
 use crate::child::{Program, run_child};
 use crate::env_system::EnvSystem;
-use crate::fault::{EnvdirFault, FolderFault};
+use crate::fault::{EnvdirFault, FolderReadFault};
 use crate::folder::{FolderFile, env_files, fault_in, name_at};
 use crate::launcher::Launcher;
 use crate::script::shell_text;
@@ -201,7 +201,7 @@ fn report_unable<E: Write>(what: &[u8], name: &str, cause: Cause, faults: &mut O
 
 /// Reports why a folder is not read, and returns the exit status for that.
 fn report_unread<A: Allocator, E: Write>(
-    unread: &FolderFault<A>,
+    unread: &FolderReadFault<A>,
     dir: &str,
     faults: &mut Output<E>,
 ) -> u8

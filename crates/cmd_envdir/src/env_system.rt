@@ -1,7 +1,7 @@
 //! What `envdir` reads from the operating system.
 ghost use Rattle.std.specs.Prelude.{IfOk, IfErr};
 
-use crate::fault::FolderFault;
+use crate::fault::FolderReadFault;
 use crate::folder::{FolderFile, folder_files};
 use crate::variables::{given_env, system_env};
 use env_title::Env;
@@ -25,7 +25,7 @@ pub trait EnvSystem {
         &self,
         alloc: &A,
         dir: &str,
-    ) -> Result<Vec<FolderFile<A>, A>, FolderFault<A>>
+    ) -> Result<Vec<FolderFile<A>, A>, FolderReadFault<A>>
         ensures order { IfOk result (λ files. AreInByteOrder (map (λ file. file.name) files.items)) }
         ensures known { IfOk result (λ files. IsKnown ((state self.now).folder dir.now) files.items) }
         ensures missing { IfErr result (λ fault. IsUnread fault ((state self.now).folder dir.now)) }
@@ -52,7 +52,7 @@ impl EnvSystem for HostRuntime {
         &self,
         alloc: &A,
         dir: &str,
-    ) -> Result<Vec<FolderFile<A>, A>, FolderFault<A>> {
+    ) -> Result<Vec<FolderFile<A>, A>, FolderReadFault<A>> {
         folder_files(self, alloc, dir)
     }
 

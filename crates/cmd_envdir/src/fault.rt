@@ -23,14 +23,14 @@ pub enum EnvdirFault {
 
 /// Why a folder is not read.
 #[derive(Drop)]
-pub struct FolderFault<A: Allocator = Global> {
+pub struct FolderReadFault<A: Allocator = Global> {
     /// The path of the file that can't be read, or none if it is the folder itself.
     file: Option<String<A>>,
     /// Why the system refused the read, or a lack of memory.
     cause: Cause,
 }
 
-impl<A: Allocator> Model for FolderFault<A> {
+impl<A: Allocator> Model for FolderReadFault<A> {
     ghost use Rattle.std.specs.Prelude.{option_map, string_bytes};
     ghost use Rattle.cmd_envdir.specs.System.{Unread};
 
@@ -39,16 +39,16 @@ impl<A: Allocator> Model for FolderFault<A> {
     ghost view = { λ fault. record { file = option_map string_bytes fault.file; cause = fault.cause } };
 }
 
-impl<A: Allocator> FolderFault<A> {
+impl<A: Allocator> FolderReadFault<A> {
     ghost use Rattle.std.specs.Prelude.{◌≡◌, Some, string_bytes};
     ghost use Rattle.cmd_envdir.specs.System.{unread_path};
 
     /// Returns the fault that a file at this path can't be read.
-    pub fn of_file(path: String<A>, cause: Cause) -> FolderFault<A>
+    pub fn of_file(path: String<A>, cause: Cause) -> FolderReadFault<A>
         ensures file { result.file ≡ Some (string_bytes path) }
         ensures cause { result.cause ≡ cause }
     {
-        FolderFault {
+        FolderReadFault {
             file: Some(path),
             cause,
         }
@@ -84,26 +84,26 @@ pub fn cause_in(error: &Error) -> Cause
     Cause::of(error)
 }
 
-impl<A: Allocator> From<Error> for FolderFault<A> {
+impl<A: Allocator> From<Error> for FolderReadFault<A> {
     ghost use Rattle.std.specs.Prelude.{◌≡◌, None};
 
     ghost from_gives = { λ _ fault. fault.file ≡ None };
 
-    fn from(error: Error) -> FolderFault<A> {
-        FolderFault {
+    fn from(error: Error) -> FolderReadFault<A> {
+        FolderReadFault {
             file: None,
             cause: cause_in(&error),
         }
     }
 }
 
-impl<A: Allocator> From<AllocError> for FolderFault<A> {
+impl<A: Allocator> From<AllocError> for FolderReadFault<A> {
     ghost use Rattle.std.specs.Prelude.{◌≡◌, None};
 
     ghost from_gives = { λ _ fault. fault.file ≡ None };
 
-    fn from(_error: AllocError) -> FolderFault<A> {
-        FolderFault {
+    fn from(_error: AllocError) -> FolderReadFault<A> {
+        FolderReadFault {
             file: None,
             cause: Cause::NoMemory,
         }

@@ -11,7 +11,7 @@ ghost use Rattle.cmd_envdir.specs.Child.{AreInByteOrder};
 ghost use Rattle.cmd_envdir.specs.Listing.{IsWhyUnlisted, ListsVisible, is_visible};
 ghost use Rattle.cmd_envdir.specs.System.{AreHeld, NamesFile};
 
-use crate::fault::{FolderFault, cause_in};
+use crate::fault::{FolderReadFault, cause_in};
 use cmd_base::FileSource;
 use env_title::{EnvFault, EnvFile};
 use std::alloc::{AllocError, Allocator, Global};
@@ -40,7 +40,7 @@ pub fn folder_files<R: Files + FileSource, A: Allocator + Clone>(
     rt: &R,
     alloc: &A,
     dir: &str,
-) -> Result<Vec<FolderFile<A>, A>, FolderFault<A>>
+) -> Result<Vec<FolderFile<A>, A>, FolderReadFault<A>>
     ensures order { IfOk result (λ files. AreInByteOrder (map (λ file. file.name) files.items)) }
     ensures held { IfOk result (λ files. AreHeld (R.file_at rt.now) dir.now files.items) }
     ensures file { IfErr result (λ fault. NamesFile (R.file_at rt.now) dir.now fault) }
@@ -50,7 +50,7 @@ pub fn folder_files<R: Files + FileSource, A: Allocator + Clone>(
         let path = path_in(alloc, dir, name.as_str())?;
         match rt.read_file(alloc.clone()?, path.as_str()) {
             Ok(bytes) => push_file(&mut files, FolderFile { name, bytes })?,
-            Err(error) => return Err(FolderFault::of_file(path, cause_in(&error))),
+            Err(error) => return Err(FolderReadFault::of_file(path, cause_in(&error))),
         }
     }
     Ok(files)

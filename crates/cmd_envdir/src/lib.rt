@@ -13,7 +13,7 @@ mod variables;
 
 pub use command::run_envdir;
 pub use env_system::EnvSystem;
-pub use fault::{EnvdirFault, FolderFault};
+pub use fault::{EnvdirFault, FolderReadFault};
 pub use folder::FolderFile;
 pub use launcher::{Launcher, SystemLauncher};
 pub use variables::system_env;
