@@ -8,8 +8,8 @@ use Rattle.std.specs.Io.KnownBytes.{Keeps, Consumes, IsAtEnd, ReadConsumes}
 use Rattle.tai_status.proofs.Known.{Keeps-same}
 use Rattle.tai_status.specs.Counted.{IsRead}
 use Rattle.mlog_core.specs.Feed.{IsNext, OpensNext}
-use Rattle.cmd_multilog.specs.declared.stop.Heard.TheVariants as heard
-use Rattle.cmd_multilog.specs.Stop.{Word, Coming, Listening, Changes, Hears, HearsWord, Reads, IsOver, is_in_line}
+use Rattle.cmd_multilog.specs.declared.stop.LoggerEvent.TheVariants as heard
+use Rattle.cmd_multilog.specs.Stop.{HeardWord, Coming, Listening, Changes, Hears, HearsWord, Reads, IsOver, is_in_line}
 use Rattle.cmd_multilog.specs.Stop.{to_newline, behind_newline, rest_of_line, next_line, rest_behind, given, part_of}
 use Rattle.cmd_multilog.specs.Stop.{parts_behind, unread, all_behind, left_in, behind_in, feed_of, IsLinesOf}
 use Rattle.cmd_multilog.specs.Stop.{before_second, StopsAtALine, LosesNothing}
@@ -35,7 +35,7 @@ in_line_append was (x ∷ xs) ys = in_line_append (not (x == 10)) xs ys
 
 -- What a logger gets
 
-given_behind : (was : Bool) (xs ys : List ℕ) (words : List Word)
+given_behind : (was : Bool) (xs ys : List ℕ) (words : List HeardWord)
     → (xs ++ ys) ++ rest_behind (is_in_line was (xs ++ ys)) words
     ≡ xs ++ (ys ++ rest_behind (is_in_line (is_in_line was xs) ys) words)
 given_behind was xs ys words =
@@ -47,7 +47,7 @@ reads_given : (was : Bool) (old new : Coming) (bs : List ℕ) → Reads bs old n
 reads_given was old new bs reads =
     ap (λ (t : List ℕ). t ++ rest_behind (is_in_line was t) old.words) reads.0
     ∙ given_behind was bs new.before old.words
-    ∙ ap (λ (w : List Word). bs ++ (new.before ++ rest_behind (is_in_line (is_in_line was bs) new.before) w))
+    ∙ ap (λ (w : List HeardWord). bs ++ (new.before ++ rest_behind (is_in_line (is_in_line was bs) new.before) w))
     (sym reads.1)
 
 -- one byte of the line in hand
@@ -73,7 +73,7 @@ next_goes (b ∷ c ∷ bs) ys one = absurd (omega (arith, one))
 -- Words
 
 -- the parts after a word, from the beginning of the next one
-abbrev heard_from : Bool → List ℕ → List Word → List (List ℕ)
+abbrev heard_from : Bool → List ℕ → List HeardWord → List (List ℕ)
 heard_from rotates bytes words =
     if rotates then part_of bytes words ∷ parts_behind (is_in_line false bytes) words else []
 
@@ -152,7 +152,7 @@ behind_goes_on was None None bs reads = refl
 behind_goes_on was None (Some new) bs reads = absurd reads
 behind_goes_on was (Some old) None bs reads = absurd reads
 behind_goes_on was (Some old) (Some new) bs reads =
-    ap (λ (w : List Word). Some (parts_behind (is_in_line (is_in_line was bs) new.before) w)) reads.1
+    ap (λ (w : List HeardWord). Some (parts_behind (is_in_line (is_in_line was bs) new.before) w)) reads.1
     ∙ ap (λ (l : Bool). Some (parts_behind l old.words)) (sym (in_line_append was bs new.before)
     ∙ ap (is_in_line was) (sym reads.0))
 
@@ -165,7 +165,7 @@ behind_goes_to_line rotates (Some old) None bs one reads = absurd reads
 behind_goes_to_line rotates (Some old) (Some new) bs one reads =
     let next : next_line (is_in_line true bs) new.before ≡ next_line true old.before = sym (next_goes bs new.before one)
     ∙ ap (next_line true) (sym reads.0) in
-    ap (λ (w : List Word). Some (heard_from rotates (next_line (is_in_line true bs) new.before) w)) reads.1
+    ap (λ (w : List HeardWord). Some (heard_from rotates (next_line (is_in_line true bs) new.before) w)) reads.1
     ∙ ap (λ (t : List ℕ). Some (heard_from rotates t old.words)) next
 
 rest_of_none : (in_line : Bool) → rest_of_line in_line [] ≡ []
@@ -351,7 +351,7 @@ either_line : (b : ℕ) (bs bytes : List ℕ) (in_line : Bool) → is_in_line tr
 either_line b bs bytes true is = behind_line (b ∷ bs) bytes is
 either_line b bs bytes false is = between_lines (b ∷ bs) bytes (inr is)
 
-lines_given : (before : List ℕ) (words : List Word)
+lines_given : (before : List ℕ) (words : List HeardWord)
     → IsLinesOf (given false (record { before = before; words = words }))
     (before_second (record { before = before; words = words }))
 lines_given before [] = record { rest = []; front = sym (append-nil (before ++ [])); ends = inr (inr refl) }
@@ -377,11 +377,11 @@ abbrev joined : List (List ℕ) → List ℕ
 joined parts = flat_map (λ part. part) parts
 
 -- what comes after the first word, in one piece and in parts
-abbrev Behind : Bool → List Word → Type 0
+abbrev Behind : Bool → List HeardWord → Type 0
 Behind in_line words = all_behind words ≡ rest_behind in_line words
     ++ (joined (parts_behind in_line words) ++ unread in_line words)
 
-behind_word : (in_line : Bool) (word : Word) (words : List Word) (rotates : Bool)
+behind_word : (in_line : Bool) (word : HeardWord) (words : List HeardWord) (rotates : Bool)
     → Behind (is_in_line false (next_line in_line word.bytes)) words
     → word.bytes ++ all_behind words ≡ rest_of_line in_line word.bytes
     ++ (joined (if rotates then part_of (next_line in_line word.bytes) words
@@ -403,7 +403,7 @@ behind_word in_line word words true further =
     ∙ ap (λ (t : List ℕ). rest ++ t) (sym (append_assoc next (rest_behind inner words) (parts ++ unread inner words))
     ∙ sym (append_assoc (next ++ rest_behind inner words) parts (unread inner words)))
 
-all_parted : (in_line : Bool) (words : List Word) → Behind in_line words
+all_parted : (in_line : Bool) (words : List HeardWord) → Behind in_line words
 all_parted in_line [] = refl
 all_parted in_line (word ∷ words) =
     behind_word in_line word words word.rotates (all_parted (is_in_line false (next_line in_line word.bytes)) words)

@@ -9,22 +9,22 @@ use Rattle.mlog_script.specs.Script.{Act}
 use Rattle.mlog_core.specs.Feed.{Feed}
 use Rattle.mlog_core.specs.Run.{World, RunsAll}
 use Rattle.mlog_core.specs.declared.stream.Counts.{Counts}
-use Rattle.cmd_multilog.specs.declared.stop.Heard.{Heard}
-use Rattle.cmd_multilog.specs.declared.stop.Heard.TheVariants as heard
+use Rattle.cmd_multilog.specs.declared.stop.LoggerEvent.{LoggerEvent}
+use Rattle.cmd_multilog.specs.declared.stop.LoggerEvent.TheVariants as heard
 
 -- A word that a logger hears, which asks for a rotation or a stop, and the bytes that come between it and the next
 -- word.
-pub record Word : Type 0 where
+pub record HeardWord : Type 0 where
   pub rotates : Bool
   pub bytes : List ℕ
 
 -- What comes to a logger: the bytes before it hears a word, which are all bytes if it hears none; and the words.
 pub record Coming : Type 0 where
   pub before : List ℕ
-  pub words : List Word
+  pub words : List HeardWord
 
 -- all bytes after the first word
-abbrev pub all_behind : List Word → List ℕ
+abbrev pub all_behind : List HeardWord → List ℕ
 all_behind [] = []
 all_behind (word ∷ words) = word.bytes ++ all_behind words
 
@@ -45,7 +45,7 @@ HearsWord rotates old new =
     old ≡ record { before = []; words = record { rotates = rotates; bytes = new.before } ∷ new.words }
 
 -- What is heard: a word; or that there is input.
-abbrev pub Hears : Heard → Coming → Coming → Type 0
+abbrev pub Hears : LoggerEvent → Coming → Coming → Type 0
 Hears heard.Stop old new = HearsWord false old new
 Hears heard.Rotate old new = HearsWord true old new
 Hears heard.Input old new = new ≡ old
@@ -84,7 +84,7 @@ abbrev pub next_line : Bool → List ℕ → List ℕ
 next_line in_line bytes = if in_line then behind_newline bytes else bytes
 
 -- the rest of the line in hand after the first of these words
-abbrev pub rest_behind : Bool → List Word → List ℕ
+abbrev pub rest_behind : Bool → List HeardWord → List ℕ
 rest_behind in_line [] = []
 rest_behind in_line (word ∷ words) = rest_of_line in_line word.bytes
 
@@ -93,18 +93,18 @@ abbrev pub given : Bool → Coming → List ℕ
 given in_line coming = coming.before ++ rest_behind (is_in_line in_line coming.before) coming.words
 
 -- the part that begins with these bytes, before these words
-abbrev pub part_of : List ℕ → List Word → List ℕ
+abbrev pub part_of : List ℕ → List HeardWord → List ℕ
 part_of bytes words = given false (record { before = bytes; words = words })
 
 -- the parts after one; there are some if the first word asks for a rotation, and each begins after the line in hand
-abbrev pub parts_behind : Bool → List Word → List (List ℕ)
+abbrev pub parts_behind : Bool → List HeardWord → List (List ℕ)
 parts_behind in_line [] = []
 parts_behind in_line (word ∷ words) =
     if word.rotates then part_of (next_line in_line word.bytes) words
     ∷ parts_behind (is_in_line false (next_line in_line word.bytes)) words else []
 
 -- the bytes that are not read: those after a stop and the line in hand there
-abbrev pub unread : Bool → List Word → List ℕ
+abbrev pub unread : Bool → List HeardWord → List ℕ
 unread in_line [] = []
 unread in_line (word ∷ words) =
     if word.rotates then unread (is_in_line false (next_line in_line word.bytes)) words

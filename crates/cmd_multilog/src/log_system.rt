@@ -76,7 +76,7 @@ pub trait LogFolder {
 }
 
 /// The place of a status file. Contracts see its path and the contents that it was given, if the type says so.
-pub trait StatusFile {
+pub trait StatusPlace {
     ghost use Rattle.std.specs.Prelude.{◌≡◌, Option, None, OnOk, OnErr};
     ghost use Rattle.cmd_multilog.specs.Folder.{Status, Receives};
 
@@ -93,7 +93,7 @@ pub trait StatusFile {
 pub trait LogSystem {
     type Folder: LogFolder + Drop;
 
-    type Status: StatusFile + Drop;
+    type Status: StatusPlace + Drop;
 
     ghost use Rattle.std.specs.Prelude.{◌≡◌, ◌<◌, ◌≤◌, ℕ, List, [], ◌∷◌, Option, None, length, take, IfOk, IfSome};
     ghost use Rattle.std.specs.Prelude.{OnOk, OnErr, IfErr};

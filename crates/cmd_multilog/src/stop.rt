@@ -12,7 +12,7 @@ const MOST_READS: u64 = 1 << 48;
 
 /// What a wait found.
 #[derive(Clone, Copy, Debug, PartialEq, Eq)]
-pub enum Heard {
+pub enum LoggerEvent {
     /// There is input, or the input is at its end.
     Input,
     /// The logger is asked to stop.
@@ -23,7 +23,7 @@ pub enum Heard {
 
 /// The input of a logger, with the channel through which it is asked to stop or to rotate. Contracts see what comes, if
 /// it is reported, and how many of its calls failed.
-pub trait LoggerInput {
+pub trait InputWithChannel {
     ghost use Rattle.std.specs.Prelude.{◌≡◌, ◌<◌, ℕ, Option, None, IfOk, OnOk, OnErr, length, take};
     ghost use Rattle.std.specs.Io.{ReadsAtMost};
     ghost use Rattle.tai_status.specs.Counted.{Rose};
@@ -34,7 +34,7 @@ pub trait LoggerInput {
     ghost failures: { Self → ℕ };
 
     /// Waits until there is input, or its end, or a word is heard. A word goes first.
-    fn wait(&mut self) -> io::Result<Heard>
+    fn wait(&mut self) -> io::Result<LoggerEvent>
         ensures ok { IfOk result (λ heard. Changes (coming self.old) (coming self.new) (Hears heard)) }
         ensures err { OnErr result (coming self.new ≡ coming self.old) }
         ensures works { OnOk result (failures self.new ≡ failures self.old) }
@@ -61,7 +61,7 @@ pub trait LoggerInput {
 /// part is at its end. After a rotation, the next part begins there. After a stop, whatever comes after that line is
 /// not read. The reader counts its faults, of waits and of reads, and keeps the cause of the last one.
 #[derive(Drop)]
-pub struct Stoppable<S: LoggerInput + Drop> {
+pub struct Stoppable<S: InputWithChannel + Drop> {
     input: S,
     stopped: bool,
     rotates: bool,
@@ -71,7 +71,7 @@ pub struct Stoppable<S: LoggerInput + Drop> {
     cause: Option<Cause>,
 }
 
-impl<S: LoggerInput + Drop> Model for Stoppable<S> {
+impl<S: InputWithChannel + Drop> Model for Stoppable<S> {
     ghost use Rattle.std.specs.Prelude.{◌≡◌, true};
     ghost use Rattle.cmd_multilog.specs.Stop.{Listening};
 
@@ -91,7 +91,7 @@ impl<S: LoggerInput + Drop> Model for Stoppable<S> {
     ghost invariant = { λ s. s.rotates ≡ true → s.stopped ≡ true };
 }
 
-impl<S: LoggerInput + Drop> Stoppable<S> {
+impl<S: InputWithChannel + Drop> Stoppable<S> {
     ghost use Rattle.std.specs.Prelude.{◌≡◌, ◌<◌, false, None, IfOk, OnOk, OnErr, length, take};
     ghost use Rattle.std.specs.Io.{ReadsAtMost};
     ghost use Rattle.std.specs.Io.KnownBytes.{ReadConsumes};
@@ -135,9 +135,9 @@ impl<S: LoggerInput + Drop> Stoppable<S> {
             return Ok(());
         }
         match self.input.wait()? {
-            Heard::Input => {}
-            Heard::Stop => self.stopped = true,
-            Heard::Rotate => {
+            LoggerEvent::Input => {}
+            LoggerEvent::Stop => self.stopped = true,
+            LoggerEvent::Rotate => {
                 self.stopped = true;
                 self.rotates = true;
             }
@@ -197,7 +197,7 @@ impl<S: LoggerInput + Drop> Stoppable<S> {
     }
 }
 
-impl<S: LoggerInput + Drop> PartedInput for Stoppable<S> {
+impl<S: InputWithChannel + Drop> PartedInput for Stoppable<S> {
     ghost use Rattle.std.specs.Prelude.{◌≡◌, ◌≤◌, IfOk, IsSome, OnOk, OnErr, length};
     ghost use Rattle.std.specs.Io.KnownBytes.{ReadConsumes};
     ghost use Rattle.tai_status.specs.Counted.{CountsRead, Fails, Works};

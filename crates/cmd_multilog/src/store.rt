@@ -3,7 +3,7 @@ ghost use Rattle.std.specs.Prelude.{◌≡◌};
 
 use crate::fault::{StoreCall, StoreTrouble};
 use crate::folder_log::{FolderLog, begin};
-use crate::log_system::{LogSystem, StatusFile};
+use crate::log_system::{LogSystem, StatusPlace};
 use mlog_files::{LogStore, StoreFault};
 use std::alloc::{AllocError, Allocator, Global};
 use std::io;
@@ -13,11 +13,11 @@ use tai_status::{Cause, Label};
 
 /// A status file at its place.
 #[derive(Drop)]
-struct PlacedStatus<S: StatusFile + Drop> {
+struct PlacedStatus<S: StatusPlace + Drop> {
     file: S,
 }
 
-impl<S: StatusFile + Drop> Model for PlacedStatus<S> {
+impl<S: StatusPlace + Drop> Model for PlacedStatus<S> {
     ghost use Rattle.std.specs.Prelude.{Option};
     ghost use Rattle.cmd_multilog.specs.Folder.{Status};
 
@@ -26,7 +26,7 @@ impl<S: StatusFile + Drop> Model for PlacedStatus<S> {
     ghost view = { λ placed. S.status placed.file };
 }
 
-impl<S: StatusFile + Drop> PlacedStatus<S> {
+impl<S: StatusPlace + Drop> PlacedStatus<S> {
     ghost use Rattle.std.specs.Prelude.{◌≡◌, OnOk, OnErr};
     ghost use Rattle.cmd_multilog.specs.Folder.{Receives};
 

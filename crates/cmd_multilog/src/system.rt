@@ -1,7 +1,7 @@
 //! The system's own folders.
 ghost use Rattle.std.specs.Prelude.{◌<◌, ◌≤◌, length, IfOk};
 
-use crate::log_system::{LogFolder, LogSystem, StatusFile};
+use crate::log_system::{LogFolder, LogSystem, StatusPlace};
 use crate::names::FileName;
 use std::alloc::{AllocError, Allocator, Global};
 use std::fs::{DirBuilder, File, Files, OpenOptions, Permissions};
@@ -31,7 +31,7 @@ const TRIES: u32 = 1000;
 
 /// The folder of a log on this system. It says nothing to contracts.
 #[derive(Drop)]
-pub struct SystemFolder<R: Files<File = File> + Drop, A: Allocator = Global> {
+pub struct SystemLogFolder<R: Files<File = File> + Drop, A: Allocator = Global> {
     runtime: R,
     alloc: A,
     path: String<A>,
@@ -95,7 +95,7 @@ fn write_front<W: Write>(writer: &mut W, piece: &[u8]) -> io::Result<usize>
     Err(Error::from(ErrorKind::Interrupted))
 }
 
-impl<R: Files<File = File> + Drop, A: Allocator + Clone> SystemFolder<R, A> {
+impl<R: Files<File = File> + Drop, A: Allocator + Clone> SystemLogFolder<R, A> {
     /// Returns the path of a name in the folder.
     fn path_of(&self, name: &str) -> io::Result<String<A>> {
         Ok(path_in(self.alloc.clone()?, self.path.as_str(), name)?)
@@ -110,7 +110,7 @@ impl<R: Files<File = File> + Drop, A: Allocator + Clone> SystemFolder<R, A> {
     }
 }
 
-impl<R: Files<File = File> + Drop, A: Allocator + Clone> LogFolder for SystemFolder<R, A> {
+impl<R: Files<File = File> + Drop, A: Allocator + Clone> LogFolder for SystemLogFolder<R, A> {
     fn lock(&mut self) -> io::Result<()> {
         let path = self.path_of("lock")?;
         let file = open_to_append(&self.runtime, path.as_str(), LOCK_MODE)?;
@@ -226,7 +226,7 @@ fn mode_at<R: Files<File = File>>(runtime: &R, path: &str) -> u32 {
     }
 }
 
-impl<R: Files<File = File> + Drop, A: Allocator + Clone> StatusFile for SystemStatus<R, A> {
+impl<R: Files<File = File> + Drop, A: Allocator + Clone> StatusPlace for SystemStatus<R, A> {
     fn replace(&mut self, content: &[u8]) -> io::Result<()> {
         let new = text_of(&self.new)?;
         let path = text_of(&self.path)?;
@@ -256,11 +256,11 @@ impl<R: Files<File = File> + Copy + Drop, E: Write + Drop, A: Allocator> SystemL
 
 impl<R: Files<File = File> + Copy + Drop, E: Write + Drop, A: Allocator + Clone> LogSystem
     for SystemLogs<R, E, A> {
-    type Folder = SystemFolder<R, A>;
+    type Folder = SystemLogFolder<R, A>;
 
     type Status = SystemStatus<R, A>;
 
-    fn folder(&mut self, path: &[u8]) -> io::Result<SystemFolder<R, A>> {
+    fn folder(&mut self, path: &[u8]) -> io::Result<SystemLogFolder<R, A>> {
         let path = String::from_str(self.alloc.clone()?, text_of(path)?)?;
         let alloc = self.alloc.clone()?;
         let mut how = DirBuilder::new();
@@ -273,7 +273,7 @@ impl<R: Files<File = File> + Copy + Drop, E: Write + Drop, A: Allocator + Clone>
                 }
             }
         }
-        Ok(SystemFolder {
+        Ok(SystemLogFolder {
             runtime: self.runtime,
             alloc,
             path,
@@ -282,7 +282,7 @@ impl<R: Files<File = File> + Copy + Drop, E: Write + Drop, A: Allocator + Clone>
         })
     }
 
-    fn take_back(&mut self, _folder: SystemFolder<R, A>) {}
+    fn take_back(&mut self, _folder: SystemLogFolder<R, A>) {}
 
     fn status_file(&self, path: &[u8]) -> Result<SystemStatus<R, A>, AllocError> {
         let mut own = Vec::new(self.alloc.clone()?);

@@ -4,7 +4,7 @@ ghost use Rattle.std.specs.Io.{ReadsAtMost};
 ghost use Rattle.tai_status.specs.Counted.{Rose};
 
 use crate::line_clock::LineLabels;
-use crate::stop::{Heard, LoggerInput};
+use crate::stop::{InputWithChannel, LoggerEvent};
 use libc::net::{POLLIN, POLLNVAL, poll};
 use libc::types::pollfd;
 use std::io::{Error, ErrorKind, Read};
@@ -32,7 +32,7 @@ enum Ready {
 }
 
 /// What the channel says.
-enum Word {
+enum ChannelWord {
     Stop,
     Rotate,
     /// A signal came before any byte.
@@ -93,16 +93,16 @@ fn wait_for_either(channel: i32) -> io::Result<Ready> {
 }
 
 /// Reads a byte from the channel, which is ready. Its end asks for a stop, and so does every byte except one.
-fn read_word(channel: i32) -> Word {
+fn read_word(channel: i32) -> ChannelWord {
     let mut byte = [0u8; 1];
     let count = libc::read(channel, &mut byte);
     if count > 0 && byte[0] == ROTATE {
-        return Word::Rotate;
+        return ChannelWord::Rotate;
     }
     if count < 0 && os::errno() == libc::EINTR {
-        return Word::Nothing;
+        return ChannelWord::Nothing;
     }
-    Word::Stop
+    ChannelWord::Stop
 }
 
 impl<'l, R: Read + Drop, C: TimeSource + Drop> SystemInput<'l, R, C> {
@@ -140,23 +140,23 @@ impl<'l, R: Read + Drop, C: TimeSource + Drop> SystemInput<'l, R, C> {
     }
 
     /// Waits until there is input, or its end, or a word is heard.
-    fn hear(&mut self) -> io::Result<Heard>
+    fn hear(&mut self) -> io::Result<LoggerEvent>
         ensures { self.new.failures ≡ self.old.failures }
     {
         for _ in 0..TRIES {
             let Some(channel) = self.channel else {
-                return Ok(Heard::Input);
+                return Ok(LoggerEvent::Input);
             };
             match wait_for_either(channel)? {
-                Ready::Input => return Ok(Heard::Input),
+                Ready::Input => return Ok(LoggerEvent::Input),
                 Ready::Channel => {
                     match read_word(channel) {
-                        Word::Stop => return Ok(Heard::Stop),
-                        Word::Rotate => {
+                        ChannelWord::Stop => return Ok(LoggerEvent::Stop),
+                        ChannelWord::Rotate => {
                             self.renew();
-                            return Ok(Heard::Rotate);
+                            return Ok(LoggerEvent::Rotate);
                         }
-                        Word::Nothing => {}
+                        ChannelWord::Nothing => {}
                     }
                 }
                 Ready::NoChannel => self.channel = None,
@@ -188,10 +188,10 @@ impl<'l, R: Read + Drop, C: TimeSource + Drop> SystemInput<'l, R, C> {
     }
 }
 
-impl<'l, R: Read + Drop, C: TimeSource + Drop> LoggerInput for SystemInput<'l, R, C> {
+impl<'l, R: Read + Drop, C: TimeSource + Drop> InputWithChannel for SystemInput<'l, R, C> {
     ghost failures = { λ input. input.failures };
 
-    fn wait(&mut self) -> io::Result<Heard> {
+    fn wait(&mut self) -> io::Result<LoggerEvent> {
         match self.hear() {
             Ok(heard) => Ok(heard),
             Err(fault) => Err(self.count(fault)),

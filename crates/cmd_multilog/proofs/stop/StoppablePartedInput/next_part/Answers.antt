@@ -8,8 +8,8 @@ use Rattle.cmd_multilog.proofs.stop.StoppablePartedInput.next_part.Goals as goal
 pub returns-clause-next : goal.returns-clause-next
 returns-clause-next g c =
     let inside = c.self.inside in
-    let coming = g.S.LoggerInput.coming inside.input in
-    let failures = g.S.LoggerInput.failures inside.input in
+    let coming = g.S.InputWithChannel.coming inside.input in
+    let failures = g.S.InputWithChannel.failures inside.input in
     let old : Listening = record {
       coming = coming;
       failures = failures;
