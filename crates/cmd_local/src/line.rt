@@ -54,7 +54,7 @@ pub struct LastTime {
 
 /// What some bytes begin with, up to a newline or to their end.
 #[derive(Clone, Copy)]
-struct Part {
+struct LinePart {
     len: usize,
     ends: bool,
 }
@@ -241,18 +241,18 @@ pub fn put_line<Z: Zone, W: Write>(
     }
 }
 
-fn first_part(bytes: &[u8]) -> Part
+fn first_part(bytes: &[u8]) -> LinePart
     ensures within { result.len ≤ length bytes.now }
     ensures some { 0 < length bytes.now → 0 < result.len }
     ensures part { IsPart (take result.len bytes.now) result.ends }
     ensures rest { result.ends ≡ false → result.len ≡ length bytes.now }
 {
     match memchr(b'\n', bytes) {
-        Some(at) => Part {
+        Some(at) => LinePart {
             len: at + 1,
             ends: true,
         },
-        None => Part {
+        None => LinePart {
             len: bytes.len(),
             ends: false,
         },
@@ -261,7 +261,7 @@ fn first_part(bytes: &[u8]) -> Part
 
 /// Returns whether the first part of some bytes waits for more of them: it begins a line, and may still be the
 /// beginning of a label.
-fn waits(part: Part, inside: bool, bytes: &[u8]) -> bool
+fn waits(part: LinePart, inside: bool, bytes: &[u8]) -> bool
     ensures { result ≡ (not part.ends && not inside && is_open bytes.now) }
 {
     !part.ends && !inside && is_open(bytes)
