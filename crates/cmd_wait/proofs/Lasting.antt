@@ -14,7 +14,7 @@ use Rattle.cmd_wait.specs.Finding.{is_ready, record_finding}
 use Rattle.cmd_wait.specs.Finding.{is_another, process_asked}
 use Rattle.cmd_wait.specs.Finding.{has_lasted, is_up, reached_if, unread_in, unsupervised_finding, unsupervised_in}
 use Rattle.cmd_wait.specs.declared.finding.Goal.{Goal}
-use Rattle.cmd_wait.specs.declared.finding.Mark.{Mark}
+use Rattle.cmd_wait.specs.declared.finding.ProcessMark.{ProcessMark}
 use Rattle.cmd_wait.specs.declared.finding.WaitState.{WaitState}
 use Rattle.cmd_wait.specs.declared.finding.WaitState.TheVariants as state
 use Rattle.cmd_wait.specs.declared.finding.Finding.TheVariants.{Reached}
@@ -47,15 +47,15 @@ seen bytes (Some n) text ready loaded is up lasted = (
   refl,
 )
 
-sees : (mark : Option Mark) (bytes : List ℕ) (age : Option ℕ) (text : Option (List ℕ)) (ready : Option Moment)
+sees : (mark : Option ProcessMark) (bytes : List ℕ) (age : Option ℕ) (text : Option (List ℕ)) (ready : Option Moment)
     (read : Result Loaded RecordFault)
     → loaded_from bytes ≡ read → record_finding state.Up mark read age ready ≡ Reached → SeesUp (Shown bytes age text ready)
 sees mark bytes age text ready (Err cause) is e = absurd cc
 sees mark bytes age text ready (Ok loaded) is e =
     let found = both (is_up loaded) (has_lasted age) e in (seen bytes age text ready loaded is found.0 found.1).0
 
-sees_another : (mark : Option Mark) (bytes : List ℕ) (age : Option ℕ) (text : Option (List ℕ)) (ready : Option Moment)
-    (read : Result Loaded RecordFault)
+sees_another : (mark : Option ProcessMark) (bytes : List ℕ) (age : Option ℕ) (text : Option (List ℕ))
+    (ready : Option Moment) (read : Result Loaded RecordFault)
     → loaded_from bytes ≡ read → record_finding state.Another mark read age ready ≡ Reached
     → SeesAnother mark (Shown bytes age text ready)
 sees_another mark bytes age text ready (Err cause) is e = absurd cc
@@ -96,7 +96,7 @@ never_another goal another e =
     not_reached_another goal.awaits_supervision
     (subst (λ (wanted : WaitState). unsupervised_in wanted goal.awaits_supervision ≡ Reached) another e)
 
-pub up_lasts : (goal : Goal) (mark : Option Mark) (sighting : Sighting) → goal.state ≡ state.Up
+pub up_lasts : (goal : Goal) (mark : Option ProcessMark) (sighting : Sighting) → goal.state ≡ state.Up
     → finding_of goal mark sighting ≡ Reached → SeesUp sighting
 up_lasts goal mark (Absent NotRunning) up e = never_waits goal up e
 up_lasts goal mark (Absent Denied) up e = absurd cc
@@ -106,7 +106,7 @@ up_lasts goal mark (Shown bytes age text ready) up e =
     sees mark bytes age text ready (loaded_from bytes) refl
     (subst (λ (wanted : WaitState). record_finding wanted mark (loaded_from bytes) age ready ≡ Reached) up e)
 
-pub another_seen : (goal : Goal) (mark : Option Mark) (sighting : Sighting) → goal.state ≡ state.Another
+pub another_seen : (goal : Goal) (mark : Option ProcessMark) (sighting : Sighting) → goal.state ≡ state.Another
     → finding_of goal mark sighting ≡ Reached → SeesAnother mark sighting
 another_seen goal mark (Absent NotRunning) another e = never_another goal another e
 another_seen goal mark (Absent Denied) another e = absurd cc
@@ -147,15 +147,15 @@ sees_said bytes loaded is (Some age) text (Some ready) lives said = record {
   about = about_true (is_about (status_in loaded) ready) ready.label said;
 }
 
-sees_ready : (mark : Option Mark) (bytes : List ℕ) (age : Option ℕ) (text : Option (List ℕ)) (ready : Option Moment)
-    (read : Result Loaded RecordFault) → loaded_from bytes ≡ read
+sees_ready : (mark : Option ProcessMark) (bytes : List ℕ) (age : Option ℕ) (text : Option (List ℕ))
+    (ready : Option Moment) (read : Result Loaded RecordFault) → loaded_from bytes ≡ read
     → record_finding state.Ready mark read age ready ≡ Reached → SeesReady (Shown bytes age text ready)
 sees_ready mark bytes age text ready (Err cause) is e = absurd cc
 sees_ready mark bytes age text ready (Ok loaded) is e =
     let found = both (is_some age) (is_some (about (status_in loaded) ready)) e in
     sees_said bytes loaded is age text ready found.0 found.1
 
-pub ready_said : (goal : Goal) (mark : Option Mark) (sighting : Sighting) → goal.state ≡ state.Ready
+pub ready_said : (goal : Goal) (mark : Option ProcessMark) (sighting : Sighting) → goal.state ≡ state.Ready
     → finding_of goal mark sighting ≡ Reached → SeesReady sighting
 ready_said goal mark (Absent NotRunning) ready e = never_ready goal ready e
 ready_said goal mark (Absent Denied) ready e = absurd cc

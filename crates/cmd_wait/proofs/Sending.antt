@@ -6,7 +6,7 @@ use Rattle.std.proofs.lemmas.Grind.{flat_map-append}
 use Rattle.svc_client.specs.Turns.{InTurn}
 use Rattle.cmd_wait.specs.Finding.{Awaited, awaited, entry_folders, folders, unmarked}
 use Rattle.cmd_wait.specs.Restarting.{sent_at, sent_to}
-use Rattle.cmd_wait.specs.declared.finding.Entry.{Entry}
+use Rattle.cmd_wait.specs.declared.finding.AwaitedService.{AwaitedService}
 use Rattle.cmd_wait.proofs.Looking.{as_service, folder_in, folders-awaited}
 
 -- steps after steps
@@ -17,14 +17,15 @@ in_turn-both {S} step (word ∷ first) rest old middle new done more =
     (done.0, (done.1.0, in_turn-both step first rest done.0 middle new done.1.1 more))
 
 -- the services up to a place, with the one there
-pub awaited-one : (entries : List Entry) (i : ℕ) (d : Entry) → i < length entries
+pub awaited-one : (entries : List AwaitedService) (i : ℕ) (d : AwaitedService) → i < length entries
     → awaited (take (i + 1) entries) ≡ awaited (take i entries) ++ as_service (get_or entries i d) ∷ []
 awaited-one entries i d within =
     ap awaited (take_more entries i d within)
-    ∙ map-append (λ (entry : Entry). as_service entry) (take i entries) (get_or entries i d ∷ [])
+    ∙ map-append (λ (entry : AwaitedService). as_service entry) (take i entries) (get_or entries i d ∷ [])
 
 -- what is sent to the services up to a place, with the one there
-pub sent-one : (entries : List Entry) (i : ℕ) (d : Entry) → i < length entries → d ≡ get_or entries i d
+pub sent-one : (entries : List AwaitedService) (i : ℕ) (d : AwaitedService) → i < length entries
+    → d ≡ get_or entries i d
     → sent_to (awaited (take (i + 1) entries)) ≡ sent_to (awaited (take i entries)) ++ sent_at (folder_in d) d.mark
 sent-one entries i d within is =
     let sent : Awaited → List (List ℕ) = λ one. sent_at one.folder one.mark in
@@ -33,14 +34,14 @@ sent-one entries i d within is =
     ap sent_to (awaited-one entries i d within)
     ∙ flat_map-append sent (awaited (take i entries)) (last ∷ [])
     ∙ ap (λ (l : List (List ℕ)). before ++ l) (append-nil (sent last))
-    ∙ ap (λ (one : Entry). before ++ sent (as_service one)) (sym is)
+    ∙ ap (λ (one : AwaitedService). before ++ sent (as_service one)) (sym is)
 
 folders-unmarked : (names : List (List ℕ)) → folders (unmarked names) ≡ names
 folders-unmarked [] = refl
 folders-unmarked (name ∷ names) = ap (λ (l : List (List ℕ)). name ∷ l) (folders-unmarked names)
 
 -- the folders of entries for these names
-pub folders-given : (entries : List Entry) (names : List (List ℕ)) → awaited entries ≡ unmarked names
+pub folders-given : (entries : List AwaitedService) (names : List (List ℕ)) → awaited entries ≡ unmarked names
     → entry_folders entries ≡ names
 folders-given entries names given =
     sym (folders-awaited entries) ∙ ap folders given ∙ folders-unmarked names

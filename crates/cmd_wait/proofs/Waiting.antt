@@ -6,7 +6,7 @@ use Rattle.svc_client.specs.Calls.{Call}
 use Rattle.cmd_wait.specs.Steps.{Step, Read, Sight, sight, IsOver}
 use Rattle.cmd_wait.specs.Words.{Order}
 use Rattle.cmd_wait.specs.Finding.{Awaited, awaited, folders}
-use Rattle.cmd_wait.specs.declared.finding.Entry.{Entry}
+use Rattle.cmd_wait.specs.declared.finding.AwaitedService.{AwaitedService}
 use Rattle.cmd_wait.specs.Watching.{Watched, watched, first_watch, Pauses}
 use Rattle.cmd_wait.specs.Rounds.{LooksAt, Waits, none, more, looks_of}
 use Rattle.cmd_wait.specs.Ends.{Scene, scene, EndsBy, WaitsFor}
@@ -62,10 +62,10 @@ way-ends command order asked begin status old now left faults new way ends = rec
   ends = ends;
 }
 
-pub none-left : (items : List Entry) → length items ≡ 0 → awaited items ≡ []
+pub none-left : (items : List AwaitedService) → length items ≡ 0 → awaited items ≡ []
 none-left [] h = refl
 none-left (item ∷ items) h = absurd (omega (arith, h))
 
-pub some-left : (items : List Entry) → (length items ≡ 0 → ⊥) → awaited items ≢ []
+pub some-left : (items : List AwaitedService) → (length items ≡ 0 → ⊥) → awaited items ≢ []
 some-left [] h = absurd (h refl)
 some-left (item ∷ items) h = λ e. absurd cc

@@ -20,7 +20,7 @@ use Rattle.cmd_wait.specs.Rounds.{Look, TakesRound, FailsAt, Waits, looks_of, Is
 use Rattle.cmd_wait.specs.declared.finding.WaitState.{WaitState}
 use Rattle.cmd_wait.specs.declared.finding.WaitState.TheVariants as state
 use Rattle.cmd_wait.specs.declared.finding.WaitFault.{WaitFault}
-use Rattle.cmd_wait.specs.declared.options.Options.{Options}
+use Rattle.cmd_wait.specs.declared.options.WaitOptions.{WaitOptions}
 use Rattle.cmd_wait.specs.declared.marking.Purpose.{Purpose}
 use Rattle.cmd_wait.specs.declared.marking.Purpose.TheVariants as aim
 use Rattle.cmd_wait.specs.declared.finding.WaitFault.TheVariants as fault
@@ -176,31 +176,31 @@ pub record WaitsThenTells (order : Order) (status : ℕ) (old new : Scene) : Typ
   pub tells : TellsAfter wait_name order waited new
 
 -- what the options ask for
-abbrev pub order_of : Options → Order
+abbrev pub order_of : WaitOptions → Order
 order_of options = order options.goal options.limit (texts options.services.now)
 
 -- It waits for services as the options say.
-abbrev pub WaitsAsked : (name : List ℕ) → Options → (asked : List Awaited) (status : ℕ)
+abbrev pub WaitsAsked : (name : List ℕ) → WaitOptions → (asked : List Awaited) (status : ℕ)
     → (calls looked : Option (List Call)) → (steps taken : Option (List Step)) → (faults reports : Device) → Type 0
 WaitsAsked name options asked status calls looked steps taken faults reports =
     WaitsFor name (order_of options) asked status
     (scene (sight calls steps) faults) (scene (sight looked taken) reports)
 
 -- The same after first looks, and after those that there are
-abbrev pub MarksAsked : Options → (status : ℕ) → (calls asked : Option (List Call)) → (steps taken : Option (List Step))
-    → (faults reports : Device) → Type 0
+abbrev pub MarksAsked : WaitOptions → (status : ℕ) → (calls asked : Option (List Call))
+    → (steps taken : Option (List Step)) → (faults reports : Device) → Type 0
 MarksAsked options status calls asked steps taken faults reports =
     MarksOrFails (order_of options) status
     (scene (sight calls steps) faults) (scene (sight asked taken) reports)
 
-abbrev pub WaitsMarked : Options → (status : ℕ) → (calls asked : Option (List Call)) → (steps taken : Option (List Step))
-    → (faults reports : Device) → Type 0
+abbrev pub WaitsMarked : WaitOptions → (status : ℕ) → (calls asked : Option (List Call))
+    → (steps taken : Option (List Step)) → (faults reports : Device) → Type 0
 WaitsMarked options status calls asked steps taken faults reports =
     WaitsByState options.goal.state (order_of options) status
     (scene (sight calls steps) faults) (scene (sight asked taken) reports)
 
 -- The same, and then it is reported for each folder that does not exist why.
-abbrev pub WaitsAndTells : Options → (status : ℕ) → (calls asked : Option (List Call))
+abbrev pub WaitsAndTells : WaitOptions → (status : ℕ) → (calls asked : Option (List Call))
     → (steps taken : Option (List Step)) → (faults reports : Device) → Type 0
 WaitsAndTells options status calls asked steps taken faults reports =
     WaitsThenTells (order_of options) status

@@ -20,8 +20,8 @@ use Rattle.cmd_svc.specs.Line.{is_running}
 use Rattle.svc_client.specs.declared.services.Unreached.{Unreached}
 use Rattle.svc_client.specs.declared.services.Unreached.TheVariants.{NotRunning, Denied, Unanswered}
 use Rattle.cmd_wait.specs.declared.finding.Goal.{Goal}
-use Rattle.cmd_wait.specs.declared.finding.Mark.{Mark}
-use Rattle.cmd_wait.specs.declared.finding.Entry.{Entry}
+use Rattle.cmd_wait.specs.declared.finding.ProcessMark.{ProcessMark}
+use Rattle.cmd_wait.specs.declared.finding.AwaitedService.{AwaitedService}
 use Rattle.cmd_wait.specs.declared.finding.WaitState.{WaitState}
 use Rattle.cmd_wait.specs.declared.finding.WaitState.TheVariants as state
 use Rattle.cmd_wait.specs.declared.finding.Finding.{Finding}
@@ -59,13 +59,13 @@ has_lasted (Some age) = nat_le 200 age
 -- was one.
 pub record Awaited : Type 0 where
   pub folder : List ℕ
-  pub mark : Option Mark
+  pub mark : Option ProcessMark
 
-abbrev pub service : (folder : List ℕ) (mark : Option Mark) → Awaited
+abbrev pub service : (folder : List ℕ) (mark : Option ProcessMark) → Awaited
 service folder mark = record { folder = folder; mark = mark }
 
 -- the services of entries; and those in folders, without a mark
-abbrev pub awaited : List Entry → List Awaited
+abbrev pub awaited : List AwaitedService → List Awaited
 awaited entries = map (λ entry. service entry.folder.now entry.mark) entries
 
 abbrev pub unmarked : List (List ℕ) → List Awaited
@@ -75,12 +75,12 @@ unmarked folders = map (λ folder. service folder None) folders
 abbrev pub folders : List Awaited → List (List ℕ)
 folders services = map (λ service. service.folder) services
 
-abbrev pub entry_folders : List Entry → List (List ℕ)
+abbrev pub entry_folders : List AwaitedService → List (List ℕ)
 entry_folders entries = map (λ entry. entry.folder.now) entries
 
 -- Whether the process of a record is not the one of a mark: it has another number, or it began at another time. If
 -- there is no mark, this is so for each process.
-abbrev pub is_another : Option Mark → Status → Bool
+abbrev pub is_another : Option ProcessMark → Status → Bool
 is_another None status = true
 is_another (Some mark) status =
     not ((mark.pid == status.pid) && (mark.label.sec == status.label.sec) && (mark.label.nano == status.label.nano))
@@ -177,7 +177,7 @@ unread_finding goal is_missing = unread_in goal.state (goal.awaits_supervision &
 -- A service is up if its record says so and its process has lived for two seconds. A service whose process ends sooner,
 -- and is restarted each time, is therefore never up. A service is restarted if it is up so, and its process is not the
 -- one of its mark. A service is ready if its process lives and said so.
-abbrev pub record_finding : WaitState → (mark : Option Mark) → Result Loaded RecordFault → (age : Option ℕ)
+abbrev pub record_finding : WaitState → (mark : Option ProcessMark) → Result Loaded RecordFault → (age : Option ℕ)
     → (ready : Option Moment) → Finding
 record_finding state.Unsupervised mark read age ready = Waiting
 record_finding state.Up mark (Ok loaded) age ready = reached_if (is_up loaded && has_lasted age)
@@ -190,7 +190,7 @@ record_finding state.Another mark (Ok loaded) age ready =
     reached_if (is_up loaded && has_lasted age && is_another mark (status_in loaded))
 record_finding state.Another mark (Err cause) age ready = Failed (fault.Bad cause)
 
-abbrev pub finding_of : Goal → (mark : Option Mark) → Sighting → Finding
+abbrev pub finding_of : Goal → (mark : Option ProcessMark) → Sighting → Finding
 finding_of goal mark (Absent why) = absent_finding goal why
 finding_of goal mark (Unread is_missing) = unread_finding goal is_missing
 finding_of goal mark (Shown bytes age text ready) = record_finding goal.state mark (loaded_from bytes) age ready
@@ -219,19 +219,19 @@ pub record SeesUp (sighting : Sighting) : Type 0 where
 -- Every look that finds a service up saw that.
 abbrev pub UpLasts : Type 0
 UpLasts =
-    (goal : Goal) (mark : Option Mark) (sighting : Sighting) → goal.state ≡ state.Up
+    (goal : Goal) (mark : Option ProcessMark) (sighting : Sighting) → goal.state ≡ state.Up
     → finding_of goal mark sighting ≡ Reached
     → SeesUp sighting
 
 -- What a look saw of a service that was restarted: it is up so, and its process is not the one of the mark.
-pub record SeesAnother (mark : Option Mark) (sighting : Sighting) : Type 0 where
+pub record SeesAnother (mark : Option ProcessMark) (sighting : Sighting) : Type 0 where
   pub up : SeesUp sighting
   pub another : is_another mark (status_in up.loaded) ≡ true
 
 -- Every look that finds a service restarted saw that.
 abbrev pub AnotherIsSeen : Type 0
 AnotherIsSeen =
-    (goal : Goal) (mark : Option Mark) (sighting : Sighting) → goal.state ≡ state.Another
+    (goal : Goal) (mark : Option ProcessMark) (sighting : Sighting) → goal.state ≡ state.Another
     → finding_of goal mark sighting ≡ Reached
     → SeesAnother mark sighting
 
@@ -250,6 +250,6 @@ pub record SeesReady (sighting : Sighting) : Type 0 where
 -- Every look that finds a service ready saw that.
 abbrev pub ReadyIsSaid : Type 0
 ReadyIsSaid =
-    (goal : Goal) (mark : Option Mark) (sighting : Sighting) → goal.state ≡ state.Ready
+    (goal : Goal) (mark : Option ProcessMark) (sighting : Sighting) → goal.state ≡ state.Ready
     → finding_of goal mark sighting ≡ Reached
     → SeesReady sighting

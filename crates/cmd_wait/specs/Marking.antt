@@ -12,7 +12,7 @@ use Rattle.svc_client.specs.Turns.{InTurn}
 use Rattle.svc_client.specs.declared.services.Unreached.{Unreached}
 use Rattle.svc_client.specs.declared.services.Unreached.TheVariants.{NotRunning, Denied, Unanswered}
 use Rattle.cmd_wait.specs.Finding.{Awaited, service}
-use Rattle.cmd_wait.specs.declared.finding.Mark.{Mark}
+use Rattle.cmd_wait.specs.declared.finding.ProcessMark.{ProcessMark}
 use Rattle.cmd_wait.specs.declared.finding.WaitFault.{WaitFault}
 use Rattle.cmd_wait.specs.declared.finding.WaitFault.TheVariants as fault
 use Rattle.cmd_wait.specs.declared.marking.Purpose.{Purpose}
@@ -32,7 +32,7 @@ calls_of_glimpse folder Unread = Reached folder None ∷ ReadStatus folder None 
 calls_of_glimpse folder (Shown bytes) = Reached folder None ∷ ReadStatus folder (Some bytes) ∷ []
 
 -- the process that a record names, if there is one
-abbrev pub process_in : Status → Option Mark
+abbrev pub process_in : Status → Option ProcessMark
 process_in status = if is_running status then Some (record { pid = status.pid; label = status.label }) else None
 
 -- A service that is to be restarted must be wanted up.
@@ -40,31 +40,31 @@ abbrev pub is_refused : Purpose → Status → Bool
 is_refused Waits status = false
 is_refused Restarts status = not (wants_up status.want)
 
-abbrev pub mark_in : Purpose → Status → Result (Option Mark) WaitFault
+abbrev pub mark_in : Purpose → Status → Result (Option ProcessMark) WaitFault
 mark_in purpose status = if is_refused purpose status then Err fault.NotWantedUp else Ok (process_in status)
 
-abbrev pub shown_mark : Purpose → Result Loaded RecordFault → Result (Option Mark) WaitFault
+abbrev pub shown_mark : Purpose → Result Loaded RecordFault → Result (Option ProcessMark) WaitFault
 shown_mark purpose (Ok loaded) = mark_in purpose (status_in loaded)
 shown_mark purpose (Err cause) = Err (fault.Bad cause)
 
 -- A service that is not supervised has no mark, if it is waited for until it is.
-abbrev pub unsupervised_mark : (awaits_supervision : Bool) → Result (Option Mark) WaitFault
+abbrev pub unsupervised_mark : (awaits_supervision : Bool) → Result (Option ProcessMark) WaitFault
 unsupervised_mark awaits_supervision = if awaits_supervision then Ok None else Err fault.NotSupervised
 
-abbrev pub absent_mark : (awaits_supervision : Bool) → Unreached → Result (Option Mark) WaitFault
+abbrev pub absent_mark : (awaits_supervision : Bool) → Unreached → Result (Option ProcessMark) WaitFault
 absent_mark awaits_supervision NotRunning = unsupervised_mark awaits_supervision
 absent_mark awaits_supervision Denied = Err fault.Denied
 absent_mark awaits_supervision Unanswered = Err fault.Unanswered
 
 -- the mark that a first look gives, or why there can be none
-abbrev pub mark_of : Purpose → (awaits_supervision : Bool) → Glimpse → Result (Option Mark) WaitFault
+abbrev pub mark_of : Purpose → (awaits_supervision : Bool) → Glimpse → Result (Option ProcessMark) WaitFault
 mark_of purpose awaits_supervision (Absent why) = absent_mark awaits_supervision why
 mark_of purpose awaits_supervision Unread = Err fault.Unread
 mark_of purpose awaits_supervision (Shown bytes) = shown_mark purpose (loaded_from bytes)
 
 -- The service in a folder was looked at, once, and this came of it.
 pub record Glimpses (purpose : Purpose) (awaits_supervision : Bool) (folder : List ℕ)
-    (found : Result (Option Mark) WaitFault) (old new : Option (List Call)) : Type 0 where
+    (found : Result (Option ProcessMark) WaitFault) (old new : Option (List Call)) : Type 0 where
   pub glimpse : Glimpse
   pub is : found ≡ mark_of purpose awaits_supervision glimpse
   pub calls : Extended old new (calls_of_glimpse folder glimpse)
@@ -79,7 +79,7 @@ marking calls marked = record { calls = calls; marked = marked }
 
 -- One more service got its mark.
 pub record Marks (purpose : Purpose) (awaits_supervision : Bool) (folder : List ℕ) (old new : Marking) : Type 0 where
-  pub mark : Option Mark
+  pub mark : Option ProcessMark
   pub glimpses : Glimpses purpose awaits_supervision folder (Ok mark) old.calls new.calls
   pub marked : new.marked ≡ old.marked ++ service folder mark ∷ []
 

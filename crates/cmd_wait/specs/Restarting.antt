@@ -13,8 +13,8 @@ use Rattle.cmd_wait.specs.Words.{Order, AskNoRestart, AsksRestart}
 use Rattle.cmd_wait.specs.Finding.{Awaited}
 use Rattle.cmd_wait.specs.Marking.{MarksEach}
 use Rattle.cmd_wait.specs.Ends.{Scene, scene, FailsFirst, LacksMemory, TellsAfter, WaitsFor, order_of}
-use Rattle.cmd_wait.specs.declared.finding.Mark.{Mark}
-use Rattle.cmd_wait.specs.declared.options.Options.{Options}
+use Rattle.cmd_wait.specs.declared.finding.ProcessMark.{ProcessMark}
+use Rattle.cmd_wait.specs.declared.options.WaitOptions.{WaitOptions}
 use Rattle.cmd_wait.specs.declared.marking.Purpose.TheVariants.{Restarts}
 
 -- the name of the command, as its reports begin; and its warning about a service that can't be reached, up to the
@@ -30,7 +30,7 @@ abbrev pub restart_bytes : List ℕ
 restart_bytes = codes "t"
 
 -- The services that have a process get it, in order. For the others there is nothing to end.
-abbrev pub sent_at : (folder : List ℕ) → Option Mark → List (List ℕ)
+abbrev pub sent_at : (folder : List ℕ) → Option ProcessMark → List (List ℕ)
 sent_at folder None = []
 sent_at folder (Some mark) = folder ∷ []
 
@@ -62,7 +62,7 @@ RestartsOrFails order status old new =
     FailsFirst restart_name Restarts order status old new ⊎ SendsThenWaits order status old new
 
 -- The same as the options say, for each value before and after
-abbrev pub RestartsAsked : Options → (status : ℕ) → (calls asked : Option (List Call))
+abbrev pub RestartsAsked : WaitOptions → (status : ℕ) → (calls asked : Option (List Call))
     → (steps taken : Option (List Step)) → (faults reports : Device) → Type 0
 RestartsAsked options status calls asked steps taken faults reports =
     RestartsOrFails (order_of options) status
@@ -74,7 +74,7 @@ pub record RestartsThenTells (order : Order) (status : ℕ) (old new : Scene) : 
   pub restarts : RestartsOrFails order status old restarted
   pub tells : TellsAfter restart_name order restarted new
 
-abbrev pub RestartsAndTells : Options → (status : ℕ) → (calls asked : Option (List Call))
+abbrev pub RestartsAndTells : WaitOptions → (status : ℕ) → (calls asked : Option (List Call))
     → (steps taken : Option (List Step)) → (faults reports : Device) → Type 0
 RestartsAndTells options status calls asked steps taken faults reports =
     RestartsThenTells (order_of options) status

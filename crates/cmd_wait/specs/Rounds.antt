@@ -10,7 +10,7 @@ use Rattle.cmd_wait.specs.declared.finding.Goal.{Goal}
 use Rattle.cmd_wait.specs.declared.finding.Finding.{Finding}
 use Rattle.cmd_wait.specs.declared.finding.Finding.TheVariants.{Reached, Waiting, Failed}
 use Rattle.cmd_wait.specs.declared.finding.WaitFault.{WaitFault}
-use Rattle.cmd_wait.specs.declared.finding.Mark.{Mark}
+use Rattle.cmd_wait.specs.declared.finding.ProcessMark.{ProcessMark}
 use Rattle.cmd_wait.specs.declared.rounds.Failure.{Failure}
 
 -- Looks at services, one after the other
@@ -57,7 +57,7 @@ pub record LooksAt (goal : Goal) (services left after : List Awaited) (old new :
 -- After looks at the services before it, the look at the service in a folder found that it can't be waited for.
 pub record FailsAt (goal : Goal) (services : List Awaited) (folder : List ℕ) (fault : WaitFault)
     (old new : Option (List Call)) : Type 0 where
-  pub mark : Option Mark
+  pub mark : Option ProcessMark
   pub left : List Awaited
   pub after : List Awaited
   pub middle : Option (List Call)

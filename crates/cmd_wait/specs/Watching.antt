@@ -5,7 +5,7 @@ use Rattle.tai_status.specs.Extended.{Extended}
 use Rattle.svc_client.specs.Calls.{Call, SoughtChange}
 use Rattle.svc_client.specs.Turns.{InTurn}
 use Rattle.cmd_wait.specs.Finding.{entry_folders}
-use Rattle.cmd_wait.specs.declared.finding.Entry.{Entry}
+use Rattle.cmd_wait.specs.declared.finding.AwaitedService.{AwaitedService}
 use Rattle.cmd_wait.specs.Steps.{Step, Read, Rested, Sight, sight, IsOver}
 use Rattle.cmd_wait.specs.declared.watch.Watch.{Watch}
 use Rattle.cmd_wait.specs.declared.watch.TheConstants.{MOST_RESTS}
@@ -83,7 +83,7 @@ pub record TakesRest (limit : Option ℕ) (begin : ℕ) (left : List (List ℕ))
   pub is : IsTrue due ↔ (IsTrue (is_due old.watch newest) ⊎ IsOver limit begin now)
 
 -- The same, for the entries of the services that are left, and for each value before and after.
-abbrev pub Rests : (limit : Option ℕ) (begin : ℕ) (left : List Entry) (due : Bool) (watch watches : Watch)
+abbrev pub Rests : (limit : Option ℕ) (begin : ℕ) (left : List AwaitedService) (due : Bool) (watch watches : Watch)
     (calls asked : Option (List Call)) (steps taken : Option (List Step)) → Type 0
 Rests limit begin left due watch watches calls asked steps taken =
     TakesRest limit begin (entry_folders left) due (watched watch (sight calls steps)) (watched watches (sight asked taken))
@@ -109,7 +109,7 @@ abbrev pub Pauses : (limit : Option ℕ) (begin : ℕ) (left : List (List ℕ)) 
 Pauses limit begin left old new = EndsDue limit begin left old new ⊎ RestsOn limit begin left old MOST_RESTS new
 
 -- The same, for the entries of the services that are left, and for each value before and after.
-abbrev pub PausesFor : (limit : Option ℕ) (begin : ℕ) (left : List Entry) (watch watches : Watch)
+abbrev pub PausesFor : (limit : Option ℕ) (begin : ℕ) (left : List AwaitedService) (watch watches : Watch)
     (calls asked : Option (List Call)) (steps taken : Option (List Step)) → Type 0
 PausesFor limit begin left watch watches calls asked steps taken =
     Pauses limit begin (entry_folders left) (watched watch (sight calls steps)) (watched watches (sight asked taken))

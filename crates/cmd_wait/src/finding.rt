@@ -32,7 +32,7 @@ pub enum WaitState {
 
 /// A process of a service, as its status record names it.
 #[derive(Clone, Copy, Debug, PartialEq, Eq)]
-pub struct Mark {
+pub struct ProcessMark {
     /// Its number, at least 1.
     pub pid: u32,
     /// When it was started.
@@ -41,10 +41,10 @@ pub struct Mark {
 
 /// A service that is waited for.
 #[derive(Clone, Copy, Debug)]
-pub(crate) struct Entry<'a> {
+pub(crate) struct AwaitedService<'a> {
     pub folder: &'a str,
     /// The process that the first look saw there, if there was one and it counts.
-    pub mark: Option<Mark>,
+    pub mark: Option<ProcessMark>,
 }
 
 /// What is waited for.
@@ -216,7 +216,7 @@ fn is_ready(view: &View, age: Option<u128>, ready: Option<Moment>) -> bool
 }
 
 /// Returns whether the process of a record is another one than that of a mark. It is if there is no mark.
-fn is_another(mark: Option<Mark>, view: &View) -> bool
+fn is_another(mark: Option<ProcessMark>, view: &View) -> bool
     ensures { result ≡ is_another mark view.now }
 {
     match mark {
@@ -233,7 +233,7 @@ fn is_another(mark: Option<Mark>, view: &View) -> bool
 /// process and its readiness, if these were asked for.
 fn record_finding(
     state: WaitState,
-    mark: Option<Mark>,
+    mark: Option<ProcessMark>,
     read: &Result<Loaded, RecordFault>,
     age: Option<u128>,
     ready: Option<Moment>,
@@ -255,7 +255,7 @@ fn record_finding(
 /// Looks at a service: whether it is supervised, and then its status. If the service should be up and its record says
 /// that it is, also looks how long its process has lived. If it should be ready, also reads whether its process said
 /// so.
-pub(crate) fn look<S: Services>(services: &mut S, goal: Goal, entry: &Entry<'_>) -> Finding
+pub(crate) fn look<S: Services>(services: &mut S, goal: Goal, entry: &AwaitedService<'_>) -> Finding
     ensures { Finds goal (service entry.now.folder.now entry.now.mark) result
         (S.calls services.old) (S.calls services.new) }
 {

@@ -16,9 +16,9 @@ mod sayings;
 mod wait;
 mod watch;
 
-pub use finding::{Finding, Goal, Mark, WaitFault, WaitState};
+pub use finding::{Finding, Goal, ProcessMark, WaitFault, WaitState};
 pub use laws::{no_crash_loop_is_up, no_old_process_ends_a_restart, ready_is_of_the_process};
-pub use options::{Options, read_options, read_restart};
+pub use options::{WaitOptions, read_options, read_restart};
 pub use pace::{Pace, SystemPace};
 pub use restart::run_restart;
 pub use wait::run_wait;

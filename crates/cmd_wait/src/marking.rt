@@ -5,7 +5,7 @@ ghost use Rattle.cmd_wait.specs.Finding.{awaited, entry_folders, unmarked};
 ghost use Rattle.cmd_wait.specs.Marking.{absent_mark, is_refused, mark_in, process_in, shown_mark, unsupervised_mark};
 ghost use Rattle.cmd_wait.specs.Marking.{Glimpses, MarksEach, MarksNot};
 
-use crate::finding::{Entry, Mark, WaitFault};
+use crate::finding::{AwaitedService, ProcessMark, WaitFault};
 use crate::rounds::Failure;
 use std::alloc::{AllocError, Allocator};
 use svc_client::{Services, Unreached};
@@ -21,11 +21,11 @@ pub(crate) enum Purpose {
 }
 
 /// Returns the process that a record names, if there is one.
-fn process_in(view: &View) -> Option<Mark>
+fn process_in(view: &View) -> Option<ProcessMark>
     ensures { result ≡ process_in view.now }
 {
     if view.pid >= 1 {
-        Some(Mark {
+        Some(ProcessMark {
             pid: view.pid,
             label: view.label,
         })
@@ -45,7 +45,7 @@ fn is_refused(purpose: Purpose, view: &View) -> bool
 }
 
 /// Returns the mark that a status gives, or why there can be none.
-fn mark_in(purpose: Purpose, view: &View) -> Result<Option<Mark>, WaitFault>
+fn mark_in(purpose: Purpose, view: &View) -> Result<Option<ProcessMark>, WaitFault>
     ensures { result ≡ mark_in purpose view.now }
 {
     if is_refused(purpose, view) {
@@ -58,7 +58,7 @@ fn mark_in(purpose: Purpose, view: &View) -> Result<Option<Mark>, WaitFault>
 fn shown_mark(
     purpose: Purpose,
     read: &Result<Loaded, RecordFault>,
-) -> Result<Option<Mark>, WaitFault>
+) -> Result<Option<ProcessMark>, WaitFault>
     ensures { result ≡ shown_mark purpose read.now }
 {
     match read {
@@ -68,7 +68,7 @@ fn shown_mark(
 }
 
 /// Returns the mark of a service that is not supervised, or that this is a fault.
-fn unsupervised_mark(awaits_supervision: bool) -> Result<Option<Mark>, WaitFault>
+fn unsupervised_mark(awaits_supervision: bool) -> Result<Option<ProcessMark>, WaitFault>
     ensures { result ≡ unsupervised_mark awaits_supervision }
 {
     if awaits_supervision {
@@ -79,7 +79,7 @@ fn unsupervised_mark(awaits_supervision: bool) -> Result<Option<Mark>, WaitFault
 }
 
 /// Returns the mark of a service that was not reached, or why there can be none.
-fn absent_mark(awaits_supervision: bool, why: Unreached) -> Result<Option<Mark>, WaitFault>
+fn absent_mark(awaits_supervision: bool, why: Unreached) -> Result<Option<ProcessMark>, WaitFault>
     ensures { result ≡ absent_mark awaits_supervision why }
 {
     match why {
@@ -96,7 +96,7 @@ fn first_look<S: Services>(
     purpose: Purpose,
     awaits_supervision: bool,
     folder: &str,
-) -> Result<Option<Mark>, WaitFault>
+) -> Result<Option<ProcessMark>, WaitFault>
     ensures { Glimpses purpose awaits_supervision folder.now result (S.calls services.old) (S.calls services.new) }
 {
     if let Err(why) = services.reach(folder) {
@@ -115,7 +115,7 @@ pub(crate) fn mark_each<'a, S: Services, A: Allocator>(
     services: &mut S,
     purpose: Purpose,
     awaits_supervision: bool,
-    entries: &mut Vec<Entry<'a>, A>,
+    entries: &mut Vec<AwaitedService<'a>, A>,
 ) -> Result<(), Failure<'a>>
     ensures ok { OnOk result (MarksEach purpose awaits_supervision (entry_folders entries.old.items)
         (awaited entries.new.items) (S.calls services.old) (S.calls services.new)) }
@@ -127,7 +127,7 @@ pub(crate) fn mark_each<'a, S: Services, A: Allocator>(
     while at < entries.len() {
         let folder = entries[at].folder;
         match first_look(services, purpose, awaits_supervision, folder) {
-            Ok(mark) => entries[at] = Entry { folder, mark },
+            Ok(mark) => entries[at] = AwaitedService { folder, mark },
             Err(fault) => return Err(Failure { folder, fault }),
         }
         at += 1;
@@ -139,12 +139,12 @@ pub(crate) fn mark_each<'a, S: Services, A: Allocator>(
 pub(crate) fn entries_of<'a, A: Allocator>(
     alloc: A,
     folders: &[&'a str],
-) -> Result<Vec<Entry<'a>, A>, AllocError>
+) -> Result<Vec<AwaitedService<'a>, A>, AllocError>
     ensures { IfOk result (λ entries. awaited entries.items ≡ unmarked (texts folders.now)) }
 {
     let mut entries = Vec::new(alloc);
     for folder in folders {
-        let entry = Entry { folder, mark: None };
+        let entry = AwaitedService { folder, mark: None };
         if entries.push(entry).is_err() {
             return Err(AllocError);
         }

@@ -11,7 +11,7 @@ use sup_core::read_number;
 
 /// What the words ask for.
 #[derive(Clone, Copy)]
-pub struct Options<'a> {
+pub struct WaitOptions<'a> {
     pub goal: Goal,
     /// The most seconds to wait. None means without limit.
     pub limit: Option<u32>,
@@ -100,7 +100,7 @@ fn services_of<'a>(words: &'a [&'a str]) -> &'a [&'a str]
 
 /// Returns what words ask for: `[-u|-U|-d|-x|-r] [-t SECONDS] SERVICE..`, with the options in either order, and with or
 /// without a `--` after them. Returns None if they ask for nothing.
-pub fn read_options<'a>(words: &'a [&'a str]) -> Option<Options<'a>>
+pub fn read_options<'a>(words: &'a [&'a str]) -> Option<WaitOptions<'a>>
     ensures wrong { MatchOption result (AskNothing (texts words.entry.now)) (λ _. ⊤) }
     ensures asks { IfSome result (λ options.
         Asks (texts words.entry.now) (order options.goal options.limit (texts options.services.now))) }
@@ -114,7 +114,7 @@ pub fn read_options<'a>(words: &'a [&'a str]) -> Option<Options<'a>>
     if services.is_empty() {
         return None;
     }
-    Some(Options {
+    Some(WaitOptions {
         goal,
         limit,
         services,
@@ -143,7 +143,7 @@ fn behind_options<'a>(words: &'a [&'a str]) -> &'a [&'a str]
 
 /// Returns which restart words ask for: `[-t SECONDS] SERVICE..`, with or without a `--` before the services. Returns
 /// None if they ask for none.
-pub fn read_restart<'a>(words: &'a [&'a str]) -> Option<Options<'a>>
+pub fn read_restart<'a>(words: &'a [&'a str]) -> Option<WaitOptions<'a>>
     ensures wrong { MatchOption result (AskNoRestart (texts words.entry.now)) (λ _. ⊤) }
     ensures asks { IfSome result (λ options.
         AsksRestart (texts words.entry.now) (order options.goal options.limit (texts options.services.now))) }
@@ -157,7 +157,7 @@ pub fn read_restart<'a>(words: &'a [&'a str]) -> Option<Options<'a>>
     if services.is_empty() {
         return None;
     }
-    Some(Options {
+    Some(WaitOptions {
         goal,
         limit,
         services,

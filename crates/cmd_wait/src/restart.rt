@@ -7,9 +7,9 @@ ghost use Rattle.cmd_wait.specs.Finding.{awaited, unmarked};
 ghost use Rattle.cmd_wait.specs.Restarting.{RestartEnds, RestartsAndTells, RestartsAsked, restart_bytes};
 ghost use Rattle.cmd_wait.specs.Restarting.{restart_warning, sent_at, sent_to};
 
-use crate::finding::Entry;
+use crate::finding::AwaitedService;
 use crate::marking::{Purpose, entries_of, mark_each};
-use crate::options::{Options, read_restart};
+use crate::options::{WaitOptions, read_restart};
 use crate::pace::Pace;
 use crate::sayings::report_failure;
 use crate::wait::wait_for;
@@ -25,7 +25,7 @@ use tai_status::Output;
 /// this one or one before it.
 fn end_one<S: Services, E: Write>(
     services: &mut S,
-    entry: &Entry<'_>,
+    entry: &AwaitedService<'_>,
     missed: bool,
     faults: &mut Output<E>,
 ) -> bool
@@ -48,7 +48,7 @@ fn end_one<S: Services, E: Write>(
 /// Does the same for each service. Returns whether one was not reached.
 fn end_each<S: Services, E: Write>(
     services: &mut S,
-    entries: &[Entry<'_>],
+    entries: &[AwaitedService<'_>],
     faults: &mut Output<E>,
 ) -> bool
     ensures { InTurn (Serves restart_warning restart_bytes) (sent_to (awaited entries.now))
@@ -66,8 +66,8 @@ fn restart_each<R: Wait, S: Services, P: Pace, A: Allocator, E: Write>(
     rt: &R,
     services: &mut S,
     pace: &mut P,
-    options: &Options<'_>,
-    entries: Vec<Entry<'_>, A>,
+    options: &WaitOptions<'_>,
+    entries: Vec<AwaitedService<'_>, A>,
     faults: &mut Output<E>,
 ) -> u8
     requires { awaited entries.items ≡ unmarked (texts options.now.services.now) }
@@ -90,8 +90,8 @@ fn restart_and_tell<R: Wait, S: Services, P: Pace, A: Allocator, E: Write>(
     rt: &R,
     services: &mut S,
     pace: &mut P,
-    options: &Options<'_>,
-    entries: Vec<Entry<'_>, A>,
+    options: &WaitOptions<'_>,
+    entries: Vec<AwaitedService<'_>, A>,
     faults: &mut Output<E>,
 ) -> u8
     requires { awaited entries.items ≡ unmarked (texts options.now.services.now) }

@@ -4,7 +4,7 @@ ghost use Rattle.cmd_wait.specs.Finding.{awaited};
 ghost use Rattle.cmd_wait.specs.Rounds.{FailsWith, LooksAt};
 ghost use Rattle.cmd_wait.specs.Steps.{IsOver};
 
-use crate::finding::{Entry, Finding, Goal, WaitFault, look};
+use crate::finding::{AwaitedService, Finding, Goal, WaitFault, look};
 use std::alloc::Allocator;
 use svc_client::Services;
 
@@ -20,7 +20,7 @@ pub(crate) struct Failure<'a> {
 pub(crate) fn look_at_each<'a, S: Services, A: Allocator>(
     services: &mut S,
     goal: Goal,
-    left: &mut Vec<Entry<'a>, A>,
+    left: &mut Vec<AwaitedService<'a>, A>,
 ) -> Result<(), Failure<'a>>
     ensures ok { OnOk result (LooksAt goal (awaited left.old.items) (awaited left.new.items) []
         (S.calls services.old) (S.calls services.new)) }

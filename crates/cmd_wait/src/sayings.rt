@@ -5,7 +5,7 @@ ghost use Rattle.tai_status.specs.Counted.{Reports};
 ghost use Rattle.cmd_wait.specs.Finding.{entry_folders};
 ghost use Rattle.cmd_wait.specs.Ends.{bad_note, fault_note, fault_status, over_note, report_of, ReportsOver};
 
-use crate::finding::{Entry, WaitFault, WaitState};
+use crate::finding::{AwaitedService, WaitFault, WaitState};
 use crate::rounds::Failure;
 use cmd_base::{DONE, REFUSED, TROUBLE, report_parts};
 use std::io::Write;
@@ -93,7 +93,7 @@ fn over_note(state: WaitState) -> &'static [u8]
 pub(crate) fn report_over<E: Write>(
     command: &[u8],
     state: WaitState,
-    left: &[Entry<'_>],
+    left: &[AwaitedService<'_>],
     faults: &mut Output<E>,
 )
     ensures { InTurn (ReportsOver command.now state) (entry_folders left.now) faults.old faults.new }

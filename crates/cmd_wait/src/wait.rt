@@ -4,9 +4,9 @@ ghost use Rattle.tai_status.specs.Words.{texts};
 ghost use Rattle.cmd_wait.specs.Ends.{MarksAsked, WaitEnds, WaitsAsked, WaitsAndTells, WaitsMarked};
 ghost use Rattle.cmd_wait.specs.Finding.{awaited, unmarked};
 
-use crate::finding::{Entry, WaitState};
+use crate::finding::{AwaitedService, WaitState};
 use crate::marking::{Purpose, entries_of, mark_each};
-use crate::options::{Options, read_options};
+use crate::options::{WaitOptions, read_options};
 use crate::pace::Pace;
 use crate::rounds::{is_over, look_at_each};
 use crate::sayings::{report_failure, report_over};
@@ -29,8 +29,8 @@ pub(crate) fn wait_for<R: Wait, S: Services, P: Pace, A: Allocator, E: Write>(
     services: &mut S,
     pace: &mut P,
     command: &[u8],
-    options: &Options<'_>,
-    entries: Vec<Entry<'_>, A>,
+    options: &WaitOptions<'_>,
+    entries: Vec<AwaitedService<'_>, A>,
     faults: &mut Output<E>,
 ) -> u8
     ensures { WaitsAsked command.now options.now (awaited entries.entry.items) result
@@ -61,8 +61,8 @@ fn mark_and_wait<R: Wait, S: Services, P: Pace, A: Allocator, E: Write>(
     rt: &R,
     services: &mut S,
     pace: &mut P,
-    options: &Options<'_>,
-    entries: Vec<Entry<'_>, A>,
+    options: &WaitOptions<'_>,
+    entries: Vec<AwaitedService<'_>, A>,
     faults: &mut Output<E>,
 ) -> u8
     requires { awaited entries.items ≡ unmarked (texts options.now.services.now) }
@@ -82,8 +82,8 @@ fn wait_by_state<R: Wait, S: Services, P: Pace, A: Allocator, E: Write>(
     rt: &R,
     services: &mut S,
     pace: &mut P,
-    options: &Options<'_>,
-    entries: Vec<Entry<'_>, A>,
+    options: &WaitOptions<'_>,
+    entries: Vec<AwaitedService<'_>, A>,
     faults: &mut Output<E>,
 ) -> u8
     requires { awaited entries.items ≡ unmarked (texts options.now.services.now) }
@@ -103,8 +103,8 @@ fn wait_and_tell<R: Wait, S: Services, P: Pace, A: Allocator, E: Write>(
     rt: &R,
     services: &mut S,
     pace: &mut P,
-    options: &Options<'_>,
-    entries: Vec<Entry<'_>, A>,
+    options: &WaitOptions<'_>,
+    entries: Vec<AwaitedService<'_>, A>,
     faults: &mut Output<E>,
 ) -> u8
     requires { awaited entries.items ≡ unmarked (texts options.now.services.now) }

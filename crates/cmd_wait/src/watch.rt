@@ -3,7 +3,7 @@ ghost use Rattle.std.specs.Prelude.{◌≡◌};
 ghost use Rattle.cmd_wait.specs.Finding.{entry_folders};
 ghost use Rattle.cmd_wait.specs.Watching.{is_same, newer, LearnsNewest, PausesFor, Rests};
 
-use crate::finding::Entry;
+use crate::finding::AwaitedService;
 use crate::pace::Pace;
 use crate::rounds::is_over;
 use svc_client::Services;
@@ -72,7 +72,7 @@ fn newer(one: Option<u64>, other: Option<u64>) -> Option<u64>
 }
 
 /// Returns when something last changed in a folder of these services, if that is known for each.
-fn newest_change<S: Services>(services: &mut S, entries: &[Entry<'_>]) -> Option<u64>
+fn newest_change<S: Services>(services: &mut S, entries: &[AwaitedService<'_>]) -> Option<u64>
     ensures { LearnsNewest (entry_folders entries.now) result (S.calls services.old) (S.calls services.new) }
 {
     let mut newest = Some(0);
@@ -89,7 +89,7 @@ fn rest_once<S: Services, P: Pace>(
     watch: &mut Watch,
     limit: Option<u32>,
     begin: u64,
-    left: &[Entry<'_>],
+    left: &[AwaitedService<'_>],
 ) -> bool
     ensures { Rests limit begin left.now result watch.old watch.new
         (S.calls services.old) (S.calls services.new) (P.steps pace.old) (P.steps pace.new) }
@@ -107,7 +107,7 @@ pub(crate) fn pause<S: Services, P: Pace>(
     watch: &mut Watch,
     limit: Option<u32>,
     begin: u64,
-    left: &[Entry<'_>],
+    left: &[AwaitedService<'_>],
 )
     ensures { PausesFor limit begin left.now watch.old watch.new
         (S.calls services.old) (S.calls services.new) (P.steps pace.old) (P.steps pace.new) }

@@ -6,7 +6,7 @@ use Rattle.svc_client.specs.Turns.{InTurn}
 use Rattle.svc_client.proofs.Turns.{in_turn-then, parts-at}
 use Rattle.cmd_wait.specs.Finding.{awaited, entry_folders}
 use Rattle.cmd_wait.specs.Marking.{Marks, marking}
-use Rattle.cmd_wait.specs.declared.finding.Entry.{Entry}
+use Rattle.cmd_wait.specs.declared.finding.AwaitedService.{AwaitedService}
 use Rattle.cmd_wait.proofs.Looking.{as_service, folder_in}
 use Rattle.cmd_wait.proofs.marking.mark_each.Goals as goal
 
@@ -18,13 +18,13 @@ loop-at-preserved g c =
     let entry = c.index.result.now in
     let within : i < length items = search rules in
     let is : entry ≡ get_or items i entry = c.index.ensures in
-    let new : Entry = record { folder = entry.folder; mark = c.in-Ok.mark } in
+    let new : AwaitedService = record { folder = entry.folder; mark = c.in-Ok.mark } in
     let put = slice_set items i new in
     let more : take (i + 1) put ≡ take i items ++ new ∷ [] = take_more_set items i new within in
     let named : entry_folders (take (i + 1) put) ≡ entry_folders (take i items) ++ entry.folder.now ∷ [] =
     ap entry_folders more ∙ map-append folder_in (take i items) (new ∷ []) in
     let marked : awaited (take (i + 1) put) ≡ awaited (take i items) ++ as_service new ∷ [] =
-    ap awaited more ∙ map-append (λ (one : Entry). as_service one) (take i items) (new ∷ []) in
+    ap awaited more ∙ map-append (λ (one : AwaitedService). as_service one) (take i items) (new ∷ []) in
     let step = Marks c.args.purpose c.args.awaits_supervision in
     let old = marking (calls c.args.services.now) [] in
     let middle = marking (calls c.loop-at.services) (awaited (take i items)) in

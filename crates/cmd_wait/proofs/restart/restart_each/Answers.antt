@@ -7,7 +7,7 @@ use Rattle.cmd_wait.specs.Finding.{awaited, entry_folders}
 use Rattle.cmd_wait.specs.Marking.{MarksEach, MarksNot}
 use Rattle.cmd_wait.specs.Ends.{scene}
 use Rattle.cmd_wait.specs.Restarting.{restart_bytes, restart_warning, sent_to}
-use Rattle.cmd_wait.specs.declared.finding.Entry.{Entry}
+use Rattle.cmd_wait.specs.declared.finding.AwaitedService.{AwaitedService}
 use Rattle.cmd_wait.specs.declared.marking.Purpose.TheVariants.{Restarts}
 use Rattle.cmd_wait.proofs.Sending.{folders-given}
 use Rattle.cmd_wait.proofs.restart.restart_each.Goals as goal
@@ -42,7 +42,7 @@ returns-then-end_each g c =
     let start = sending (calls c.mark_each.new.services) c.args.faults.now false in
     let end = λ (missed : Bool). sending (calls c.end_each.new.services) c.end_each.new.faults missed in
     let sends : InTurn step (sent_to (awaited items)) start (end c.end_each.result) =
-    subst (λ (l : List Entry). InTurn step (sent_to (awaited l)) start (end c.end_each.result)) all
+    subst (λ (l : List AwaitedService). InTurn step (sent_to (awaited l)) start (end c.end_each.result)) all
     c.end_each.ensures in
     inr (record {
       marked = awaited items;
@@ -70,7 +70,7 @@ returns g c =
     let start = sending (calls c.mark_each.new.services) c.args.faults.now false in
     let end = λ (missed : Bool). sending (calls c.end_each.new.services) c.end_each.new.faults missed in
     let sends : InTurn step (sent_to (awaited items)) start (end c.end_each.result) =
-    subst (λ (l : List Entry). InTurn step (sent_to (awaited l)) start (end c.end_each.result)) all
+    subst (λ (l : List AwaitedService). InTurn step (sent_to (awaited l)) start (end c.end_each.result)) all
     c.end_each.ensures in
     inr (record {
       marked = awaited items;

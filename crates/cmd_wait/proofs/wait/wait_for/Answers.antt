@@ -2,7 +2,7 @@ use Rattle.std.proofs.Common.{rules, ◌≡◌, ℕ, List, [], length, refl, sym
 use Rattle.tai_status.specs.Counted.{Device, Reports}
 use Rattle.svc_client.specs.Turns.{InTurn}
 use Rattle.cmd_wait.specs.Finding.{Awaited, awaited, entry_folders, folders}
-use Rattle.cmd_wait.specs.declared.finding.Entry.{Entry}
+use Rattle.cmd_wait.specs.declared.finding.AwaitedService.{AwaitedService}
 use Rattle.cmd_wait.specs.Steps.{Sight, sight, IsOver}
 use Rattle.cmd_wait.specs.Watching.{Watched, watched, first_watch, Pauses}
 use Rattle.cmd_wait.specs.declared.watch.Watch.{Watch}
@@ -106,7 +106,7 @@ returns-then-is_over g c =
     let reported : over_each (folders (awaited items)) c.args.faults.now =
     subst (λ (left : List (List ℕ)). over_each left c.args.faults.now) (sym (folders-awaited items))
     (subst (λ (d : Device). over_each (entry_folders items) d) c.loop.invariant.1
-    (subst (λ (left : List Entry). over_each (entry_folders left) c.loop.faults) all c.report_over.ensures)) in
+    (subst (λ (left : List AwaitedService). over_each (entry_folders left) c.loop.faults) all c.report_over.ensures)) in
     way-ends command o asked c.now-begin.result 99 (sight (calls c.args.services.now) (steps c.args.pace.now))
     (watched c.loop.watch (sight (calls c.loop.services) (steps c.loop.pace)))
     (awaited c.loop.left.items) c.args.faults.now
@@ -139,7 +139,7 @@ loop-preserved g c =
     let new : Watched = watched c.pause.new.watch (sight (calls c.pause.new.services) (steps c.pause.new.pace)) in
     let pauses : Pauses o.limit c.now-begin.result (folders (awaited items)) middle new =
     subst (λ (left : List (List ℕ)). Pauses o.limit c.now-begin.result left middle new) (sym (folders-awaited items))
-    (subst (λ (left : List Entry). Pauses o.limit c.now-begin.result (entry_folders left) middle new) all
+    (subst (λ (left : List AwaitedService). Pauses o.limit c.now-begin.result (entry_folders left) middle new) all
     c.pause.ensures) in (
       way-more o asked c.now-begin.result c.now-now.result (sight (calls c.args.services.now) (steps c.args.pace.now))
           (awaited c.loop.left.items) (awaited items)
