@@ -15,8 +15,8 @@ use Rattle.svc_client.specs.declared.services.Unreached.{Unreached}
 use Rattle.svc_client.specs.declared.services.Unreached.TheVariants as unreached
 use Rattle.cmd_svc.specs.declared.course.Course.{Course}
 use Rattle.cmd_svc.specs.declared.course.Course.TheVariants.{BackingOff, Finishing, Plain, Ready}
-use Rattle.cmd_svc.specs.declared.look.Look.{Look}
-use Rattle.cmd_svc.specs.declared.look.Look.TheVariants as look
+use Rattle.cmd_svc.specs.declared.look.ServiceLook.{ServiceLook}
+use Rattle.cmd_svc.specs.declared.look.ServiceLook.TheVariants as look
 use Rattle.cmd_why.specs.Facts.{leads_to}
 use Rattle.cmd_why.specs.Sentences.{signal_text}
 use Rattle.cmd_report.specs.declared.found.Found.{Found}
@@ -39,7 +39,7 @@ unfoldable pub cell : (class content : List ℕ) → List ℕ
 cell class content = codes "<td class=\"" ++ class ++ codes "\">" ++ content ++ codes "</td>"
 
 -- the status that a look found
-abbrev pub status_of : Look → Option Status
+abbrev pub status_of : ServiceLook → Option Status
 status_of (look.Standing loaded normally_up now course) = Some (status_in loaded)
 status_of other = None
 
@@ -61,7 +61,7 @@ unreached_word unreached.NotRunning = codes "not supervised"
 unreached_word unreached.Denied = codes "no permission"
 unreached_word unreached.Unanswered = codes "no answer"
 
-abbrev pub state_word : Look → List ℕ
+abbrev pub state_word : ServiceLook → List ℕ
 state_word (look.Unreached why) = unreached_word why
 state_word look.Unread = codes "status unreadable"
 state_word (look.Bad cause) = codes "status damaged"
@@ -76,7 +76,7 @@ state_class (Some status) =
     else codes "down"
 
 -- The same for a look. It is not as it should be if its next start waits.
-abbrev pub look_class : Look → List ℕ
+abbrev pub look_class : ServiceLook → List ℕ
 look_class (look.Standing loaded normally_up now (BackingOff until)) = codes "warn"
 look_class look = state_class (status_of look)
 

@@ -10,7 +10,7 @@ ghost use Rattle.cmd_why.specs.Sentences.{signal_text};
 
 use crate::picture::{push_picture, push_restarts};
 use crate::text::{push_number, push_text};
-use cmd_svc::{Course, Look, is_running};
+use cmd_svc::{Course, ServiceLook, is_running};
 use cmd_why::leads_to;
 use std::alloc::{AllocError, Allocator};
 use sup_trace::TraceText;
@@ -19,11 +19,11 @@ use svc_record::{Ending, Exit, signal_name};
 use tai_status::{Label, View, Want};
 
 /// Returns the status that a look found.
-pub(crate) fn status_of(look: &Look) -> Option<View>
+pub(crate) fn status_of(look: &ServiceLook) -> Option<View>
     ensures { result ≡ status_of look.now }
 {
     match look {
-        Look::Standing { loaded, .. } => Some(loaded.view()),
+        ServiceLook::Standing { loaded, .. } => Some(loaded.view()),
         _ => None,
     }
 }
@@ -65,14 +65,14 @@ fn unreached_word(why: Unreached) -> &'static str
 }
 
 /// Returns what a look found, in a word or two.
-pub(crate) fn state_word(look: &Look) -> &'static str
+pub(crate) fn state_word(look: &ServiceLook) -> &'static str
     ensures { result.now ≡ state_word look.now }
 {
     match look {
-        Look::Unreached(why) => unreached_word(*why),
-        Look::Unread => "status unreadable",
-        Look::Bad(_) => "status damaged",
-        Look::Standing { loaded, course, .. } => side_word(&loaded.view(), course),
+        ServiceLook::Unreached(why) => unreached_word(*why),
+        ServiceLook::Unread => "status unreadable",
+        ServiceLook::Bad(_) => "status damaged",
+        ServiceLook::Standing { loaded, course, .. } => side_word(&loaded.view(), course),
     }
 }
 
@@ -99,11 +99,11 @@ fn state_class(status: &Option<View>) -> &'static str
 }
 
 /// Returns the class of the cell of a state.
-pub(crate) fn look_class(look: &Look) -> &'static str
+pub(crate) fn look_class(look: &ServiceLook) -> &'static str
     ensures { result.now ≡ look_class look.now }
 {
     match look {
-        Look::Standing {
+        ServiceLook::Standing {
             course: Course::BackingOff(_),
             ..
         } => "warn",

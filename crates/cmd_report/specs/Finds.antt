@@ -4,8 +4,8 @@ use Rattle.tai_status.specs.Extended.{Extended}
 use Rattle.svc_client.specs.Calls.{Call, ReadNotice}
 use Rattle.svc_client.specs.Sight.{Sight, sight}
 use Rattle.cmd_svc.specs.Svstat.{Finds}
-use Rattle.cmd_svc.specs.declared.look.Look.{Look}
-use Rattle.cmd_svc.specs.declared.look.Look.TheVariants as look
+use Rattle.cmd_svc.specs.declared.look.ServiceLook.{ServiceLook}
+use Rattle.cmd_svc.specs.declared.look.ServiceLook.TheVariants as look
 use Rattle.svc_client.specs.declared.notice.Notice.TheVariants as notice
 use Rattle.cmd_why.specs.Why.{ReadsExit}
 use Rattle.svc_record.specs.declared.counts.Counts.{Counts}
@@ -32,7 +32,7 @@ pub record ReadsPast (folder : List ℕ) (counts : Option Counts) (last : Option
   pub last_read : ReadsExit folder last middle now
 
 -- They are read if the status was read, and only then.
-abbrev pub SeeksPast : Look → (folder : List ℕ) (counts : Option Counts) (last : Option Exit)
+abbrev pub SeeksPast : ServiceLook → (folder : List ℕ) (counts : Option Counts) (last : Option Exit)
     (past now : Option (List Call)) → Type 0
 SeeksPast (look.Standing loaded normally_up at course) folder counts last past now =
     ReadsPast folder counts last past now

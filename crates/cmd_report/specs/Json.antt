@@ -17,8 +17,8 @@ use Rattle.cmd_svc.specs.Svstat.{fault_name}
 use Rattle.svc_client.specs.declared.services.Unreached.{Unreached}
 use Rattle.svc_client.specs.declared.services.Unreached.TheVariants as unreached
 use Rattle.cmd_svc.specs.declared.course.Course.{Course}
-use Rattle.cmd_svc.specs.declared.look.Look.{Look}
-use Rattle.cmd_svc.specs.declared.look.Look.TheVariants as look
+use Rattle.cmd_svc.specs.declared.look.ServiceLook.{ServiceLook}
+use Rattle.cmd_svc.specs.declared.look.ServiceLook.TheVariants as look
 use Rattle.svc_record.specs.declared.exit.Exit.{Exit}
 use Rattle.cmd_report.specs.Metrics.{backoff_in, deaths_in, is_finishing, ready_in, signal_of, starts_in}
 use Rattle.cmd_report.specs.Metrics.{status_of, unix_second}
@@ -133,7 +133,7 @@ unreached_members unreached.NotRunning =
 unreached_members other = string_member (codes "error") (unreached_text other)
 
 -- the members after the path
-abbrev pub look_members : Look → Option Counts → Option Exit → List Token
+abbrev pub look_members : ServiceLook → Option Counts → Option Exit → List Token
 look_members (look.Unreached why) counts last = unreached_members why
 look_members look.Unread counts last = string_member (codes "error") (codes "unable to read status")
 look_members (look.Bad cause) counts last =

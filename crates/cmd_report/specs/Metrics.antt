@@ -14,8 +14,8 @@ use Rattle.tai_status.specs.declared.loading.Loaded.TheVariants.{Old, New}
 use Rattle.cmd_svc.specs.Line.{is_running, seconds, wants_up}
 use Rattle.cmd_svc.specs.declared.course.Course.{Course}
 use Rattle.cmd_svc.specs.declared.course.Course.TheVariants.{BackingOff, Finishing, Ready}
-use Rattle.cmd_svc.specs.declared.look.Look.{Look}
-use Rattle.cmd_svc.specs.declared.look.Look.TheVariants as look
+use Rattle.cmd_svc.specs.declared.look.ServiceLook.{ServiceLook}
+use Rattle.cmd_svc.specs.declared.look.ServiceLook.TheVariants as look
 use Rattle.svc_record.specs.declared.ending.Ending.{Ending}
 use Rattle.svc_record.specs.declared.ending.Ending.TheVariants.{Status, Signal}
 use Rattle.svc_record.specs.declared.exit.Exit.{Exit}
@@ -27,7 +27,7 @@ use Rattle.cmd_report.specs.declared.samples.Sample.TheVariants as sample
 -- Values
 
 -- whether a supervisor responded
-abbrev pub is_supervised : Look → Bool
+abbrev pub is_supervised : ServiceLook → Bool
 is_supervised (look.Unreached why) = false
 is_supervised other = true
 
@@ -63,7 +63,7 @@ abbrev pub is_finishing : Course → Bool
 is_finishing Finishing = true
 is_finishing other = false
 
-abbrev pub look_value : Sample → Look → Option ℕ
+abbrev pub look_value : Sample → ServiceLook → Option ℕ
 look_value sample.Ready (look.Standing loaded normally_up now course) = Some (flag_byte (is_some (ready_in course)))
 look_value sample.Finishing (look.Standing loaded normally_up now course) = Some (flag_byte (is_finishing course))
 look_value sample.BackingOff (look.Standing loaded normally_up now course) =

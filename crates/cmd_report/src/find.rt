@@ -5,7 +5,7 @@ ghost use Rattle.cmd_report.specs.Finds.{FindsFront, FindsOne, FindsWords, Reads
 
 use crate::counts::counts_in;
 use crate::found::Found;
-use cmd_svc::{Look, look_at};
+use cmd_svc::{ServiceLook, look_at};
 use cmd_why::read_exit;
 use std::alloc::{AllocError, Allocator};
 use svc_client::{Notice, Observer, Services};
@@ -26,16 +26,16 @@ fn read_counts<S: Services>(services: &mut S, folder: &str) -> Option<Counts>
 fn read_past<S: Services>(
     services: &mut S,
     folder: &str,
-    look: &Look,
+    look: &ServiceLook,
 ) -> (Option<Counts>, Option<Exit>)
     ensures { SeeksPast look.now folder.now result.0 result.1 (S.calls services.old) (S.calls services.new) }
 {
     match look {
-        Look::Standing { .. } => {
+        ServiceLook::Standing { .. } => {
             let counts = read_counts(services, folder);
             (counts, read_exit(services, folder))
         }
-        Look::Unreached(_) | Look::Unread | Look::Bad(_) => (None, None),
+        ServiceLook::Unreached(_) | ServiceLook::Unread | ServiceLook::Bad(_) => (None, None),
     }
 }
 

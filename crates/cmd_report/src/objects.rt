@@ -12,7 +12,7 @@ use crate::found::Found;
 use crate::samples::{
     backoff_in, deaths_in, is_finishing, ready_in, signal_of, starts_in, status_of, unix_second,
 };
-use cmd_svc::{Course, Look, is_running};
+use cmd_svc::{Course, ServiceLook, is_running};
 use json::Writer;
 use std::alloc::{AllocError, Allocator};
 use svc_client::Unreached;
@@ -127,10 +127,10 @@ fn add_members<A: Allocator>(writer: &mut Writer<A>, found: &Found) -> Result<()
     ensures { OnOk result (Adds writer.old writer.new (look_members found.now.look found.now.counts found.now.last)) }
 {
     match &found.look {
-        Look::Unreached(why) => add_unreached(writer, *why),
-        Look::Unread => add_string(writer, "error", "unable to read status"),
-        Look::Bad(fault) => add_string(writer, "error", bad_text(*fault)),
-        Look::Standing {
+        ServiceLook::Unreached(why) => add_unreached(writer, *why),
+        ServiceLook::Unread => add_string(writer, "error", "unable to read status"),
+        ServiceLook::Bad(fault) => add_string(writer, "error", bad_text(*fault)),
+        ServiceLook::Standing {
             loaded,
             normally_up,
             now,

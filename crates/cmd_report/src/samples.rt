@@ -7,7 +7,7 @@ ghost use Rattle.cmd_report.specs.Metrics.{signal_of, signal_of_last, standing_v
 ghost use Rattle.cmd_report.specs.Metrics.{backoff_in, is_finishing, ready_in, status_of_last, unix_second, value_in};
 
 use crate::found::Found;
-use cmd_svc::{Course, Look, is_running};
+use cmd_svc::{Course, ServiceLook, is_running};
 use svc_record::{Counts, Ending, Exit};
 use tai_status::{Label, Loaded, Phase, Want, phase_name};
 
@@ -70,12 +70,12 @@ fn flag(holds: bool) -> u64
 }
 
 /// Returns whether a supervisor responded.
-fn is_supervised(look: &Look) -> bool
+fn is_supervised(look: &ServiceLook) -> bool
     ensures { result ≡ is_supervised look.now }
 {
     match look {
-        Look::Unreached(_) => false,
-        Look::Unread | Look::Bad(_) | Look::Standing { .. } => true,
+        ServiceLook::Unreached(_) => false,
+        ServiceLook::Unread | ServiceLook::Bad(_) | ServiceLook::Standing { .. } => true,
     }
 }
 
@@ -140,11 +140,11 @@ fn signal_of_last(last: Option<Exit>) -> Option<u64>
 }
 
 /// Returns the value of a sample that a look has.
-fn look_value(sample: Sample, look: &Look) -> Option<u64>
+fn look_value(sample: Sample, look: &ServiceLook) -> Option<u64>
     ensures { result ≡ look_value sample look.now }
 {
     match look {
-        Look::Standing {
+        ServiceLook::Standing {
             loaded,
             now,
             course,
@@ -155,7 +155,7 @@ fn look_value(sample: Sample, look: &Look) -> Option<u64>
             Sample::BackingOff => Some(flag(backoff_in(course).is_some())),
             _ => standing_value(sample, loaded, now),
         },
-        Look::Unreached(_) | Look::Unread | Look::Bad(_) => None,
+        ServiceLook::Unreached(_) | ServiceLook::Unread | ServiceLook::Bad(_) => None,
     }
 }
 

@@ -7,8 +7,8 @@ use Rattle.tai_status.specs.Loading.{status_in}
 use Rattle.cmd_svc.specs.Line.{is_running, wants_up}
 use Rattle.cmd_svc.specs.Shown.{shown}
 use Rattle.cmd_svc.specs.Svstat.{look_line}
-use Rattle.cmd_svc.specs.declared.look.Look.{Look}
-use Rattle.cmd_svc.specs.declared.look.Look.TheVariants as look
+use Rattle.cmd_svc.specs.declared.look.ServiceLook.{ServiceLook}
+use Rattle.cmd_svc.specs.declared.look.ServiceLook.TheVariants as look
 use Rattle.cmd_svc.specs.declared.listed.Shade.{Shade}
 use Rattle.cmd_svc.specs.declared.listed.Shade.TheVariants as shade
 
@@ -26,7 +26,7 @@ abbrev pub is_colored : (terminal unset : Bool) → Bool
 is_colored terminal unset = terminal && unset
 
 -- the shade of a state: up; down, as it is wanted; and down, though it is wanted up
-abbrev pub shade_of : Look → Shade
+abbrev pub shade_of : ServiceLook → Shade
 shade_of (look.Standing loaded normally_up now course) =
     if is_running (status_in loaded) then shade.Green
     else if wants_up (status_in loaded).want then shade.Red
@@ -63,6 +63,6 @@ shaded name spaces of line =
     ++ shown (drop (word_length of) (drop name line))
 
 -- the line about a look at the service in a folder, without a newline
-abbrev pub listed_line : (width : ℕ) (colored : Bool) (folder : List ℕ) → Look → List ℕ
+abbrev pub listed_line : (width : ℕ) (colored : Bool) (folder : List ℕ) → ServiceLook → List ℕ
 listed_line width colored folder look =
     shaded (length folder + 2) (width - length folder) (used_shade colored (shade_of look)) (look_line folder look)

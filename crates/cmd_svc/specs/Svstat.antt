@@ -18,8 +18,8 @@ use Rattle.cmd_svc.specs.Missing.{TellsEach, telling}
 use Rattle.svc_client.specs.declared.services.Unreached.{Unreached}
 use Rattle.svc_client.specs.declared.services.Unreached.TheVariants as unreached
 use Rattle.cmd_svc.specs.declared.course.Course.{Course}
-use Rattle.cmd_svc.specs.declared.look.Look.{Look}
-use Rattle.cmd_svc.specs.declared.look.Look.TheVariants as look
+use Rattle.cmd_svc.specs.declared.look.ServiceLook.{ServiceLook}
+use Rattle.cmd_svc.specs.declared.look.ServiceLook.TheVariants as look
 use Rattle.cmd_svc.specs.declared.svstat.SvstatFault.{SvstatFault}
 use Rattle.cmd_svc.specs.declared.svstat.SvstatFault.TheVariants as why
 
@@ -63,7 +63,7 @@ pub record FindsStatus (folder : List ℕ) (loaded : Loaded) (normally_up : Bool
   pub read : Extended old.readings new.readings (now ∷ [])
 
 -- What a look at the service in a folder found
-abbrev pub Finds : (folder : List ℕ) → Look → (old new : Sight) → Type 0
+abbrev pub Finds : (folder : List ℕ) → ServiceLook → (old new : Sight) → Type 0
 Finds folder (look.Unreached why) old new = FindsNone folder why old new
 Finds folder look.Unread old new = FindsUnread folder old new
 Finds folder (look.Bad cause) old new = FindsBad folder cause old new
@@ -89,7 +89,7 @@ fault_name fault.PhaseNumber = codes "PhaseNumber"
 fault_name fault.NoSuchState = codes "NoSuchState"
 
 -- the line about a look at the service in a folder, without a newline
-abbrev pub look_line : (folder : List ℕ) → Look → List ℕ
+abbrev pub look_line : (folder : List ℕ) → ServiceLook → List ℕ
 look_line folder (look.Unreached why) = folder ++ unreached_note why
 look_line folder look.Unread = folder ++ codes ": unable to read status"
 look_line folder (look.Bad cause) = folder ++ codes ": bad status record: " ++ fault_name cause
@@ -97,16 +97,16 @@ look_line folder (look.Standing loaded normally_up now course) =
     status_line folder loaded normally_up now course
 
 -- the same as svstat prints it: control characters in the folder's name are escaped, and the line has no others
-abbrev pub shown_line : (folder : List ℕ) → Look → List ℕ
+abbrev pub shown_line : (folder : List ℕ) → ServiceLook → List ℕ
 shown_line folder look = shown (look_line folder look)
 
 -- How the line about a look at the service in a folder reads, without a newline
 abbrev pub Form : Type 0
-Form = (folder : List ℕ) → Look → List ℕ
+Form = (folder : List ℕ) → ServiceLook → List ℕ
 
 -- The service in a folder was looked at, and then the line about that was written, in a form.
 pub record Shows (line_of : Form) (folder : List ℕ) (old new : Scene) : Type 0 where
-  pub look : Look
+  pub look : ServiceLook
   pub finds : Finds folder look old.sight new.sight
   pub wrote : Wrote old.writer new.writer (line_of folder look ++ 10 ∷ [])
   pub works : Works old.writer new.writer
@@ -120,7 +120,7 @@ WritesNot why.Write line old new = WroteFront old new line × Fails old new
 
 -- The service in a folder was looked at, and the line about that was not written.
 pub record ShowsNot (line_of : Form) (folder : List ℕ) (cause : SvstatFault) (old new : Scene) : Type 0 where
-  pub look : Look
+  pub look : ServiceLook
   pub finds : Finds folder look old.sight new.sight
   pub unwritten : WritesNot cause (line_of folder look ++ 10 ∷ []) old.writer new.writer
 

@@ -2,23 +2,23 @@
 ghost use Rattle.cmd_svc.specs.Svstat.{shown_line};
 
 use crate::escaping::shown;
-use crate::look::{Look, look_line};
+use crate::look::{ServiceLook, look_line};
 use std::alloc::{AllocError, Allocator};
 
 /// A form in which `svstat` writes what a look found. Contracts see the line as a function of the folder and the look.
 pub trait LineForm {
     ghost use Rattle.std.specs.Prelude.{◌≡◌, ℕ, List, IfOk};
-    ghost use Rattle.cmd_svc.specs.declared.look.Look.{Look};
+    ghost use Rattle.cmd_svc.specs.declared.look.ServiceLook.{ServiceLook};
 
     // the line about a look at the service in a folder, without a newline
-    ghost line_of: { Self → List ℕ → Look → List ℕ };
+    ghost line_of: { Self → List ℕ → ServiceLook → List ℕ };
 
     /// Returns the line about a look at the service in a folder, without a newline.
     fn line<A: Allocator + Clone>(
         &self,
         alloc: A,
         folder: &str,
-        look: &Look,
+        look: &ServiceLook,
     ) -> Result<Vec<u8, A>, AllocError>
         ensures { IfOk result (λ line. line.items ≡ line_of self.now folder.now look.now) };
 }
@@ -33,7 +33,7 @@ impl LineForm for PlainLine {
         &self,
         alloc: A,
         folder: &str,
-        look: &Look,
+        look: &ServiceLook,
     ) -> Result<Vec<u8, A>, AllocError> {
         let line = look_line(alloc.clone()?, folder, look)?;
         shown(alloc, line.as_bytes())

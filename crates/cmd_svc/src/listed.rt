@@ -10,7 +10,7 @@ ghost use Rattle.tai_status.specs.Words.{texts};
 use crate::escaping::shown;
 use crate::form::LineForm;
 use crate::line::is_running;
-use crate::look::{Look, look_line};
+use crate::look::{ServiceLook, look_line};
 use std::alloc::{AllocError, Allocator};
 use tai_status::Want;
 
@@ -66,10 +66,10 @@ fn wants_up(want: Want) -> bool
 }
 
 /// Returns the shade of a state.
-fn shade_of(look: &Look) -> Shade
+fn shade_of(look: &ServiceLook) -> Shade
     ensures { result ≡ shade_of look.now }
 {
-    let Look::Standing { loaded, .. } = look else {
+    let ServiceLook::Standing { loaded, .. } = look else {
         return Shade::Plain;
     };
     let status = loaded.view();
@@ -183,7 +183,7 @@ impl LineForm for ListedLine {
         &self,
         alloc: A,
         folder: &str,
-        look: &Look,
+        look: &ServiceLook,
     ) -> Result<Vec<u8, A>, AllocError> {
         let line = look_line(alloc.clone()?, folder, look)?;
         let shade = used_shade(self.colored, shade_of(look));

@@ -11,7 +11,7 @@ use tai_status::{Label, Loaded, RecordFault, TimeSource, decode_front};
 
 /// What a look at a service found.
 #[derive(Clone, Copy, Debug, PartialEq, Eq)]
-pub enum Look {
+pub enum ServiceLook {
     /// It can't be reached, so that nothing is known about it.
     Unreached(Unreached),
     /// Its status can't be read.
@@ -29,24 +29,28 @@ pub enum Look {
 
 /// Looks at the service in a folder: whether it is supervised, then its status, then its file `down`, what it
 /// does that its status does not say, and the clock. The first of these that fails ends the look.
-pub fn look_at<S: Services, C: TimeSource>(services: &mut S, clock: &mut C, folder: &str) -> Look
+pub fn look_at<S: Services, C: TimeSource>(
+    services: &mut S,
+    clock: &mut C,
+    folder: &str,
+) -> ServiceLook
     ensures { Finds folder.now result (sight (S.calls services.old) (C.readings clock.old))
         (sight (S.calls services.new) (C.readings clock.new)) }
 {
     if let Err(why) = services.reach(folder) {
-        return Look::Unreached(why);
+        return ServiceLook::Unreached(why);
     }
     let Ok(front) = services.read_status(folder) else {
-        return Look::Unread;
+        return ServiceLook::Unread;
     };
     match decode_front(front.as_slice()) {
-        Ok(loaded) => Look::Standing {
+        Ok(loaded) => ServiceLook::Standing {
             loaded,
             normally_up: !services.has_down(folder),
             course: ask_course(services, folder, &loaded),
             now: clock.now(),
         },
-        Err(fault) => Look::Bad(fault),
+        Err(fault) => ServiceLook::Bad(fault),
     }
 }
 
@@ -96,15 +100,20 @@ fn noted<A: Allocator>(
 pub(crate) fn look_line<A: Allocator>(
     alloc: A,
     folder: &str,
-    look: &Look,
+    look: &ServiceLook,
 ) -> Result<String<A>, AllocError>
     ensures { IfOk result (λ line. string_bytes line ≡ look_line folder.now look.now) }
 {
     match look {
-        Look::Unreached(why) => noted(alloc, folder, unreached_note(*why), ""),
-        Look::Unread => noted(alloc, folder, ": unable to read status", ""),
-        Look::Bad(fault) => noted(alloc, folder, ": bad status record: ", fault_name(*fault)),
-        Look::Standing {
+        ServiceLook::Unreached(why) => noted(alloc, folder, unreached_note(*why), ""),
+        ServiceLook::Unread => noted(alloc, folder, ": unable to read status", ""),
+        ServiceLook::Bad(fault) => noted(
+            alloc,
+            folder,
+            ": bad status record: ",
+            fault_name(*fault),
+        ),
+        ServiceLook::Standing {
             loaded,
             normally_up,
             now,

@@ -29,7 +29,7 @@ impl Model for OrderBytes {
 
 /// What the words of a svc command ask for: each byte is sent to each service, in order.
 #[derive(Drop)]
-pub struct Order<A: Allocator + Clone = Global> {
+pub struct SvcOrder<A: Allocator + Clone = Global> {
     /// The letters of the option words as control bytes, each once.
     pub bytes: OrderBytes,
     /// The words that name services.

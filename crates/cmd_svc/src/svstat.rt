@@ -7,7 +7,7 @@ ghost use Rattle.cmd_svc.specs.Svstat.{scene, shown_line, Shows, ShowsNot, Shows
 ghost use Rattle.cmd_svc.specs.Svstat.{SvstatEnds, WritesNot, svstat_report};
 
 use crate::form::{LineForm, PlainLine};
-use crate::look::{Look, look_at};
+use crate::look::{ServiceLook, look_at};
 use crate::missing::tell_missing;
 use cmd_base::{DONE, TROUBLE, report, report_device};
 use std::alloc::{AllocError, Allocator};
@@ -29,7 +29,7 @@ fn whole_line<F: LineForm, A: Allocator + Clone>(
     form: &F,
     alloc: &A,
     folder: &str,
-    look: &Look,
+    look: &ServiceLook,
 ) -> Result<Vec<u8, A>, AllocError>
     ensures { IfOk result (λ line. line.items ≡ F.line_of form.now folder.now look.now ++ 10 ∷ []) }
 {
@@ -43,7 +43,7 @@ fn write_line<F: LineForm, A: Allocator + Clone, W: Write>(
     form: &F,
     alloc: &A,
     folder: &str,
-    look: &Look,
+    look: &ServiceLook,
     writer: &mut Output<W>,
 ) -> Result<(), SvstatFault>
     ensures ok { OnOk result

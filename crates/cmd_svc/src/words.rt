@@ -3,7 +3,7 @@ ghost use Rattle.cmd_svc.specs.Words.{is_option, after_options, order_bytes, ser
 ghost use Rattle.tai_status.specs.Words.{texts};
 ghost use Rattle.cmd_svc.specs.Svc.{RefusesUnknown};
 
-use crate::order::{Order, OrderBytes, SvcFault};
+use crate::order::{OrderBytes, SvcFault, SvcOrder};
 use std::alloc::{AllocError, Allocator};
 use tai_status::{Name, Names};
 
@@ -16,7 +16,7 @@ use tai_status::{Name, Names};
 /// Returns `UnknownLetter` for the first unknown letter, even if there is no memory. Otherwise returns `OutOfMemory`
 /// only if the allocator refuses the memory for the names of the services. If there are no services, no memory is
 /// needed.
-pub fn assemble<A: Allocator + Clone>(alloc: A, words: &[&str]) -> Result<Order<A>, SvcFault>
+pub fn assemble<A: Allocator + Clone>(alloc: A, words: &[&str]) -> Result<SvcOrder<A>, SvcFault>
     ensures bytes { IfOk result (λ order. order.bytes ≡ order_bytes (texts words.now)) }
     ensures services { IfOk result (λ order. order.services ≡ service_words (texts words.now)) }
     ensures refuses { RefusesUnknown (texts words.now) result }
@@ -24,7 +24,7 @@ pub fn assemble<A: Allocator + Clone>(alloc: A, words: &[&str]) -> Result<Order<
 {
     let bytes = read_letters(words)?;
     let services = copy_names(alloc, services_of(words)).map_err(|_| SvcFault::OutOfMemory)?;
-    Ok(Order { bytes, services })
+    Ok(SvcOrder { bytes, services })
 }
 
 /// Returns whether a word is an option word.
