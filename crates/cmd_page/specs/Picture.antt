@@ -10,8 +10,8 @@ use Rattle.sup_trace.specs.Content.{Content}
 use Rattle.cmd_why.specs.Entries.{is_signal}
 use Rattle.cmd_why.specs.Facts.{nanos}
 use Rattle.cmd_why.specs.Timeline.{left_end, stretches_of}
-use Rattle.cmd_why.specs.declared.timeline.Shown.{Shown}
-use Rattle.cmd_why.specs.declared.timeline.Shown.TheVariants as shown
+use Rattle.cmd_why.specs.declared.timeline.ShownState.{ShownState}
+use Rattle.cmd_why.specs.declared.timeline.ShownState.TheVariants as shown
 use Rattle.cmd_why.specs.declared.timeline.Stretch.{Stretch}
 
 -- Places
@@ -30,7 +30,7 @@ rectangle class from to = codes "<rect class=\"" ++ class ++ extent from to ++ c
 -- States
 
 -- the class of a stretch
-abbrev pub class_of : Shown → List ℕ
+abbrev pub class_of : ShownState → List ℕ
 class_of shown.Up = codes "up"
 class_of shown.Paused = codes "warn"
 class_of shown.Attempt = codes "warn"

@@ -6,7 +6,7 @@ ghost use Rattle.cmd_page.specs.Picture.{is_recent, is_restart, mark, opening, p
 ghost use Rattle.cmd_page.specs.Picture.{reaches_back, rectangle, rectangles, restarts, restarts_text, stretch_text};
 
 use crate::text::{push_number, push_text};
-use cmd_why::{Shown, Stretch, is_signal, nanos, stretches_of};
+use cmd_why::{ShownState, Stretch, is_signal, nanos, stretches_of};
 use std::alloc::{AllocError, Allocator};
 use sup_core::Event;
 use sup_trace::TraceText;
@@ -60,14 +60,14 @@ fn push_rectangle<A: Allocator>(
 }
 
 /// Returns the class of a stretch.
-fn class_of(shown: Shown) -> &'static str
+fn class_of(shown: ShownState) -> &'static str
     ensures { result.now ≡ class_of shown }
 {
     match shown {
-        Shown::Up => "up",
-        Shown::Paused | Shown::Attempt => "warn",
-        Shown::Down => "down",
-        Shown::Unknown => "dark",
+        ShownState::Up => "up",
+        ShownState::Paused | ShownState::Attempt => "warn",
+        ShownState::Down => "down",
+        ShownState::Unknown => "dark",
     }
 }
 

@@ -8,7 +8,7 @@ use Rattle.sup_core.specs.declared.event.Event.{Event}
 use Rattle.sup_core.specs.declared.event.Event.TheVariants.{Byte, Started, StartFailed, Death}
 use Rattle.sup_trace.specs.Content.{Content, replay_of}
 use Rattle.cmd_why.specs.declared.entries.Kind.TheVariants.{Start, Death as OfDeath, Attempt, Control, Signal, Want}
-use Rattle.cmd_why.specs.declared.facts.Ended.{Ended}
+use Rattle.cmd_why.specs.declared.facts.EndedProcess.{EndedProcess}
 use Rattle.cmd_why.specs.declared.facts.Facts.{Facts}
 use Rattle.cmd_why.specs.Entries.{has, last_of, behind_last, before_last, byte_in}
 
@@ -76,7 +76,7 @@ label_of_start before (Some (Started pid label)) = label
 label_of_start before other = before.label
 
 -- a process that ended at this label, from the status before some entries and from these entries, which led to its end
-abbrev pub ended_at : Status → List Event → Tai64n → Ended
+abbrev pub ended_at : Status → List Event → Tai64n → EndedProcess
 ended_at before entries label = record {
   pid = pid_of_start before (last_of Start entries);
   label = label;
@@ -87,12 +87,12 @@ ended_at before entries label = record {
 }
 
 -- the process that the last death ended
-abbrev pub ended_by : Status → List Event → Option Event → Option Ended
+abbrev pub ended_by : Status → List Event → Option Event → Option EndedProcess
 ended_by before entries (Some (Death label)) = Some (ended_at before (before_last OfDeath entries) label)
 ended_by before entries other = None
 
 -- the last process that ended; and whether the last start failed
-abbrev pub last_ended : Content → Option Ended
+abbrev pub last_ended : Content → Option EndedProcess
 last_ended content = ended_by content.base.status content.entries (last_of OfDeath content.entries)
 
 abbrev pub is_failure : Option Event → Bool

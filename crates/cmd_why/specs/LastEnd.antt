@@ -5,7 +5,7 @@ use Rattle.tai_status.specs.Label.{Tai64n}
 use Rattle.svc_record.specs.declared.ending.Ending.{Ending}
 use Rattle.svc_record.specs.declared.exit.Exit.{Exit}
 use Rattle.cmd_why.specs.Facts.{nanos, same_label}
-use Rattle.cmd_why.specs.declared.facts.Ended.{Ended}
+use Rattle.cmd_why.specs.declared.facts.EndedProcess.{EndedProcess}
 use Rattle.cmd_why.specs.declared.facts.Facts.{Facts}
 use Rattle.cmd_why.specs.declared.last_ends.LastEnd.{LastEnd}
 use Rattle.cmd_why.specs.declared.last_ends.LastEnd.TheVariants.{Traced, Recorded}
@@ -13,29 +13,29 @@ use Rattle.cmd_why.specs.declared.last_ends.LastEnd.TheVariants.{Traced, Recorde
 -- The last end
 
 -- whether an exit is about the process, and the time, of an end in the trace
-abbrev pub is_of_end : Exit → Ended → Bool
+abbrev pub is_of_end : Exit → EndedProcess → Bool
 is_of_end exit ended = (exit.pid == ended.pid) && same_label exit.label ended.label
 
 -- how a process ended whose end is in the trace, if the exit is about it
-abbrev pub how : Exit → Ended → Option Ending
+abbrev pub how : Exit → EndedProcess → Option Ending
 how exit ended = if is_of_end exit ended then Some exit.ending else None
 
 -- whether an exit is later than an end in the trace
-abbrev pub is_later : Exit → Ended → Bool
+abbrev pub is_later : Exit → EndedProcess → Bool
 is_later exit ended = nat_lt (nanos ended.label) (nanos exit.label)
 
 -- the later of two ends, or the one in the trace if both are at the same time
-abbrev pub later : Exit → Option Ended → LastEnd
+abbrev pub later : Exit → Option EndedProcess → LastEnd
 later exit None = Recorded exit
 later exit (Some ended) = if is_later exit ended then Recorded exit else Traced ended (how exit ended)
 
 -- the last end in a trace
-abbrev pub ended_in : Option Facts → Option Ended
+abbrev pub ended_in : Option Facts → Option EndedProcess
 ended_in (Some facts) = facts.ended
 ended_in None = None
 
 -- the same, if the trace leads to the record
-abbrev pub traced_end : Option Facts → Option Ended
+abbrev pub traced_end : Option Facts → Option EndedProcess
 traced_end (Some facts) = if facts.leads then facts.ended else None
 traced_end None = None
 

@@ -19,7 +19,7 @@ use Rattle.svc_record.specs.declared.ending.Ending.{Ending}
 use Rattle.svc_record.specs.declared.ending.Ending.TheVariants.{Status as OfStatus, Signal}
 use Rattle.cmd_svc.specs.Line.{is_running, seconds, note, normal_notes}
 use Rattle.cmd_svc.specs.declared.course.Course.{Course}
-use Rattle.cmd_why.specs.declared.facts.Ended.{Ended}
+use Rattle.cmd_why.specs.declared.facts.EndedProcess.{EndedProcess}
 use Rattle.cmd_why.specs.declared.facts.Facts.{Facts}
 use Rattle.cmd_why.specs.declared.last_ends.LastEnd.{LastEnd}
 use Rattle.cmd_why.specs.declared.last_ends.LastEnd.TheVariants.{Traced, Recorded}
@@ -129,7 +129,7 @@ ending_words (Some (Signal number)) = codes " by " ++ signal_text number
 ending_words other = []
 
 -- which process ended, how long it ran, and how it ended
-abbrev pub ended_words : Ended → Option Ending → List ℕ
+abbrev pub ended_words : EndedProcess → Option Ending → List ℕ
 ended_words ended ending =
     decimal ended.pid ++ codes " ran " ++ tenths_text ended.tenths ++ codes " s and ended"
     ++ ending_words ending ++ how_words ended.sent ended.unasked ++ codes "."

@@ -17,29 +17,29 @@ use Rattle.cmd_svc.specs.Line.{is_running}
 use Rattle.cmd_why.specs.Facts.{nanos}
 use Rattle.cmd_why.specs.declared.lines.Drawing.{Drawing}
 use Rattle.cmd_why.specs.declared.lines.Drawing.TheVariants as drawing
-use Rattle.cmd_why.specs.declared.timeline.Shown.{Shown}
-use Rattle.cmd_why.specs.declared.timeline.Shown.TheVariants as shown
+use Rattle.cmd_why.specs.declared.timeline.ShownState.{ShownState}
+use Rattle.cmd_why.specs.declared.timeline.ShownState.TheVariants as shown
 use Rattle.cmd_why.specs.declared.timeline.Stretch.{Stretch}
 
 -- Stretches: from one entry that has a label to the next
 
-abbrev pub stretch : (from to : ℕ) → Shown → Stretch
+abbrev pub stretch : (from to : ℕ) → ShownState → Stretch
 stretch from to what = record { from = from; to = to; shown = what }
 
 -- How a machine is shown: paused; up; an attempt, if it settles after a start or rests after a failed one; and
 -- otherwise down.
-abbrev pub shown_in : Phase → Shown
+abbrev pub shown_in : Phase → ShownState
 shown_in phase.Up = shown.Up
 shown_in phase.Settling = shown.Attempt
 shown_in phase.Resting = shown.Attempt
 shown_in other = shown.Down
 
-abbrev pub shown_of : State → Shown
+abbrev pub shown_of : State → ShownState
 shown_of state = if state.status.paused then shown.Paused else shown_in state.phase
 
 -- How the machine before the entries is shown, from its label to the first label of an entry. During all of that time
 -- there was a process, or none, and nothing more is known.
-abbrev pub shown_before : Status → Shown
+abbrev pub shown_before : Status → ShownState
 shown_before status =
     if status.paused then shown.Paused else if is_running status then shown.Up else shown.Down
 
@@ -100,7 +100,7 @@ edge from width column = from + column * width / columns
 abbrev pub has_part : (from to : ℕ) → Stretch → Bool
 has_part from to s = nat_lt s.from to && nat_lt from s.to
 
-abbrev pub same : Shown → Shown → Bool
+abbrev pub same : ShownState → ShownState → Bool
 same shown.Up shown.Up = true
 same shown.Paused shown.Paused = true
 same shown.Attempt shown.Attempt = true
@@ -109,11 +109,11 @@ same shown.Unknown shown.Unknown = true
 same other more = false
 
 -- whether a stretch that is shown this way overlaps that time
-abbrev pub stands : (from to : ℕ) → Shown → List Stretch → Bool
+abbrev pub stands : (from to : ℕ) → ShownState → List Stretch → Bool
 stands from to what drawn = list_any (λ s. has_part from to s && same s.shown what) drawn
 
 -- the one of these that holds, if exactly one does
-abbrev pub alone : (up paused attempt down unknown : Bool) → Option Shown
+abbrev pub alone : (up paused attempt down unknown : Bool) → Option ShownState
 alone true false false false false = Some shown.Up
 alone false true false false false = Some shown.Paused
 alone false false true false false = Some shown.Attempt
@@ -122,12 +122,12 @@ alone false false false false true = Some shown.Unknown
 alone up paused attempt down unknown = None
 
 -- what is shown throughout a time, or None if there is more than one
-abbrev pub throughout : (from to : ℕ) → List Stretch → Option Shown
+abbrev pub throughout : (from to : ℕ) → List Stretch → Option ShownState
 throughout from to drawn =
     alone (stands from to shown.Up drawn) (stands from to shown.Paused drawn) (stands from to shown.Attempt drawn)
     (stands from to shown.Down drawn) (stands from to shown.Unknown drawn)
 
-abbrev pub sign : Option Shown → List ℕ
+abbrev pub sign : Option ShownState → List ℕ
 sign (Some shown.Up) = codes "#"
 sign (Some shown.Paused) = codes "="
 sign (Some shown.Attempt) = codes "*"

@@ -39,12 +39,12 @@ use Rattle.cmd_why.specs.declared.lines.Absence.{Absence}
 use Rattle.cmd_why.specs.declared.lines.Absence.TheVariants as absence
 use Rattle.cmd_why.specs.declared.lines.Drawing.{Drawing}
 use Rattle.cmd_why.specs.declared.lines.Drawing.TheVariants as drawing
-use Rattle.cmd_why.specs.declared.lines.Found.{Found}
-use Rattle.cmd_why.specs.declared.lines.Found.TheVariants as found
+use Rattle.cmd_why.specs.declared.lines.WhyFinding.{WhyFinding}
+use Rattle.cmd_why.specs.declared.lines.WhyFinding.TheVariants as found
 use Rattle.cmd_why.specs.declared.lines.Picture.{Picture}
 use Rattle.cmd_why.specs.declared.lines.Standing.{Standing}
-use Rattle.cmd_why.specs.declared.why.Reach.{Reach}
-use Rattle.cmd_why.specs.declared.why.Reach.TheVariants as reach
+use Rattle.cmd_why.specs.declared.why.ReachOutcome.{ReachOutcome}
+use Rattle.cmd_why.specs.declared.why.ReachOutcome.TheVariants as reach
 use Rattle.cmd_why.specs.declared.why.WhyFault.{WhyFault}
 use Rattle.cmd_why.specs.declared.why.WhyFault.TheVariants as fault
 
@@ -86,7 +86,7 @@ absence_words absence.Unreachable = codes " can't be reached."
 absence_words absence.Nobody = codes " is not supervised: nothing accepts connections at its supervise/ok."
 
 -- the line about what a look at the service in a folder found, without a newline
-abbrev pub found_line : (folder : List ℕ) → Found → List ℕ
+abbrev pub found_line : (folder : List ℕ) → WhyFinding → List ℕ
 found_line folder (found.Absent absence) = folder ++ absence_words absence
 found_line folder found.Unread = folder ++ codes " is supervised, but its status can't be read."
 found_line folder (found.Bad cause) =
@@ -95,16 +95,16 @@ found_line folder (found.Standing s) =
     why_line folder s.loaded s.normally_up s.facts s.last s.course s.course_time.bytes s.time.bytes s.now
 
 -- what is drawn about it
-abbrev pub drawing_in : Found → Drawing
+abbrev pub drawing_in : WhyFinding → Drawing
 drawing_in (found.Standing s) = s.drawing
 drawing_in other = drawing.Unasked
 
 -- that line, with control characters of the folder's name escaped (it has no others), and after it what is drawn
-abbrev pub found_text : (folder : List ℕ) → Found → List ℕ
+abbrev pub found_text : (folder : List ℕ) → WhyFinding → List ℕ
 found_text folder found = shown (found_line folder found) ++ (10 ∷ []) ++ drawing_lines (drawing_in found)
 
 -- Whether a service could not be read. It counts as read if nobody is there.
-abbrev pub is_unread : Found → Bool
+abbrev pub is_unread : WhyFinding → Bool
 is_unread (found.Absent absence.Nobody) = false
 is_unread (found.Standing s) = false
 is_unread other = true
@@ -185,7 +185,7 @@ pub record ReachesNobody (folder : List ℕ) (absence : Absence) (past now : Opt
 -- What was asked of the service in a folder, with the results: whether it is supervised, and only then its status. If
 -- that is a record, its file `down` was looked for, and it was sought what the service does that the record does not
 -- say.
-abbrev pub Reaches : (folder : List ℕ) → Reach → (past now : Option (List Call)) → Type 0
+abbrev pub Reaches : (folder : List ℕ) → ReachOutcome → (past now : Option (List Call)) → Type 0
 Reaches folder (reach.Absent absence) past now = ReachesNobody folder absence past now
 Reaches folder reach.Unread past now = Extended past now (Reached folder None ∷ ReadStatus folder None ∷ [])
 Reaches folder (reach.Bad cause) past now = ReachesBad folder cause past now
@@ -212,7 +212,8 @@ pub record FindsStanding (k : Knowledge) (timeline : Bool) (folder : List ℕ) (
   pub drawing : IsDrawing k.times timeline content (status_in loaded) s.now s.drawing
 
 -- What a look found, from the result of the calls.
-abbrev pub Finds : Knowledge → (timeline : Bool) → (folder : List ℕ) → Reach → Found → (old new : Sight) → Type 0
+abbrev pub Finds : Knowledge → (timeline : Bool) → (folder : List ℕ) → ReachOutcome → WhyFinding → (old new : Sight)
+    → Type 0
 Finds k timeline folder (reach.Absent absence) (found.Absent content) old new = (content ≡ absence) × (new ≡ old)
 Finds k timeline folder reach.Unread found.Unread old new = new ≡ old
 Finds k timeline folder (reach.Bad cause) (found.Bad content) old new = (content ≡ cause) × (new ≡ old)
@@ -225,15 +226,16 @@ abbrev pub MayReadExit : (folder : List ℕ) (past now : Option (List Call)) →
 MayReadExit folder past now = (now ≡ past) ⊎ ((exit : Option Exit) × ReadsExit folder exit past now)
 
 -- The service in a folder was asked, and then this was found.
-pub record Looks (k : Knowledge) (timeline : Bool) (folder : List ℕ) (found : Found) (old new : Sight) : Type 0 where
-  pub reach : Reach
+pub record Looks (k : Knowledge) (timeline : Bool) (folder : List ℕ) (found : WhyFinding) (old new : Sight)
+    : Type 0 where
+  pub reach : ReachOutcome
   pub asked : Option (List Call)
   pub reaches : Reaches folder reach old.calls asked
   pub finds : Finds k timeline folder reach found (sight asked old.readings) new
 
 -- The service was asked, and then there was no memory for what is found.
 pub record LooksInPart (folder : List ℕ) (old new : Sight) : Type 0 where
-  pub reach : Reach
+  pub reach : ReachOutcome
   pub asked : Option (List Call)
   pub reaches : Reaches folder reach old.calls asked
   pub may_read : MayReadExit folder asked new.calls
@@ -252,7 +254,7 @@ scene sight writer unread = record { sight = sight; writer = writer; unread = un
 
 -- The service in a folder was looked at, and then the text about that was written.
 pub record Shows (k : Knowledge) (timeline : Bool) (folder : List ℕ) (old new : Scene) : Type 0 where
-  pub found : Found
+  pub found : WhyFinding
   pub looks : Looks k timeline folder found old.sight new.sight
   pub wrote : Wrote old.writer new.writer (found_text folder found)
   pub works : Works old.writer new.writer
@@ -273,12 +275,12 @@ WritesNot fault.Write text old new = WroteFront old new text × Fails old new
 -- There was no memory for the trace of the service in a folder, or for its text. Nothing was written.
 pub record LacksMemory (k : Knowledge) (timeline : Bool) (folder : List ℕ) (old new : Scene) : Type 0 where
   pub looks : LooksInPart folder old.sight new.sight
-      ⊎ ((found : Found) × Looks k timeline folder found old.sight new.sight)
+      ⊎ ((found : WhyFinding) × Looks k timeline folder found old.sight new.sight)
   pub unwritten : new.writer ≡ old.writer
 
 -- The service in a folder was looked at, and the writer failed after a front of the text about that.
 pub record FailsToWrite (k : Knowledge) (timeline : Bool) (folder : List ℕ) (old new : Scene) : Type 0 where
-  pub found : Found
+  pub found : WhyFinding
   pub looks : Looks k timeline folder found old.sight new.sight
   pub front : WroteFront old.writer new.writer (found_text folder found)
   pub fails : Fails old.writer new.writer

@@ -23,7 +23,7 @@ pub const FLAPPING: u64 = 5;
 
 /// A process that ended, as a trace shows it.
 #[derive(Clone, Copy, Debug, PartialEq, Eq)]
-pub struct Ended {
+pub struct EndedProcess {
     pub pid: u32,
     /// When it ended.
     pub label: Label,
@@ -52,7 +52,7 @@ pub struct Facts {
     /// The last control byte after the last start that sent a signal.
     pub sent: Option<u8>,
     /// The last process that ended.
-    pub ended: Option<Ended>,
+    pub ended: Option<EndedProcess>,
     /// Whether the last start failed.
     pub failed: bool,
     /// Whether no process has run since supervise began.
@@ -207,12 +207,12 @@ fn label_of_start(before: &View, start: &Option<Event>) -> Label
 }
 
 /// Returns the process that ended at this label, after these entries.
-fn ended_at(before: &View, entries: &[Event], label: &Label) -> Ended
+fn ended_at(before: &View, entries: &[Event], label: &Label) -> EndedProcess
     ensures { result ≡ ended_at before.now entries.now label.now }
 {
     let start = last_of(Kind::Start, entries);
     let behind = behind_last(Kind::Start, entries);
-    Ended {
+    EndedProcess {
         pid: pid_of_start(before, &start),
         label: *label,
         tenths: tenths_between(&label_of_start(before, &start), label),
@@ -223,7 +223,7 @@ fn ended_at(before: &View, entries: &[Event], label: &Label) -> Ended
 }
 
 /// Returns the process that the last death ended.
-fn ended_by(before: &View, entries: &[Event], death: &Option<Event>) -> Option<Ended>
+fn ended_by(before: &View, entries: &[Event], death: &Option<Event>) -> Option<EndedProcess>
     ensures { result ≡ ended_by before.now entries.now death.now }
 {
     match death {
@@ -235,7 +235,7 @@ fn ended_by(before: &View, entries: &[Event], death: &Option<Event>) -> Option<E
 }
 
 /// Returns the last process that ended.
-fn last_ended<A: Allocator>(content: &TraceText<A>) -> Option<Ended>
+fn last_ended<A: Allocator>(content: &TraceText<A>) -> Option<EndedProcess>
     ensures { result ≡ last_ended content.now }
 {
     let entries = content.entries();

@@ -4,7 +4,7 @@ ghost use Rattle.std.specs.Option.{option_copied};
 ghost use Rattle.cmd_why.specs.LastEnd.{ended_in, how, is_later, is_of_end, last_end, later};
 ghost use Rattle.cmd_why.specs.LastEnd.{time_of_end, traced_end};
 
-use crate::facts::{Ended, Facts, nanos, same_label};
+use crate::facts::{EndedProcess, Facts, nanos, same_label};
 use svc_record::{Ending, Exit};
 use tai_status::Label;
 
@@ -12,20 +12,20 @@ use tai_status::Label;
 #[derive(Clone, Copy, Debug, PartialEq, Eq)]
 pub enum LastEnd {
     /// The trace has it, and the file `exit` may say how that process ended.
-    Traced(Ended, Option<Ending>),
+    Traced(EndedProcess, Option<Ending>),
     /// Only the file `exit` has it.
     Recorded(Exit),
 }
 
 /// Returns whether a line of `exit` is about the same process, and the same time, as an end in the trace.
-fn is_of_end(exit: &Exit, ended: &Ended) -> bool
+fn is_of_end(exit: &Exit, ended: &EndedProcess) -> bool
     ensures { result ≡ is_of_end exit.now ended.now }
 {
     exit.pid == ended.pid && same_label(&exit.label, &ended.label)
 }
 
 /// Returns how a process ended whose end is in the trace, if the line of `exit` is about it.
-fn how(exit: &Exit, ended: &Ended) -> Option<Ending>
+fn how(exit: &Exit, ended: &EndedProcess) -> Option<Ending>
     ensures { result ≡ how exit.now ended.now }
 {
     if is_of_end(exit, ended) {
@@ -36,14 +36,14 @@ fn how(exit: &Exit, ended: &Ended) -> Option<Ending>
 }
 
 /// Returns whether the line of `exit` is later than an end in the trace.
-fn is_later(exit: &Exit, ended: &Ended) -> bool
+fn is_later(exit: &Exit, ended: &EndedProcess) -> bool
     ensures { result ≡ is_later exit.now ended.now }
 {
     nanos(&ended.label) < nanos(&exit.label)
 }
 
 /// Returns the later of two ends, or the one in the trace if both are at the same time.
-fn later(exit: &Exit, ended: Option<Ended>) -> LastEnd
+fn later(exit: &Exit, ended: Option<EndedProcess>) -> LastEnd
     ensures { result ≡ later exit.now ended }
 {
     match ended {
@@ -53,7 +53,7 @@ fn later(exit: &Exit, ended: Option<Ended>) -> LastEnd
 }
 
 /// Returns the last end in a trace.
-fn ended_in(facts: Option<&Facts>) -> Option<Ended>
+fn ended_in(facts: Option<&Facts>) -> Option<EndedProcess>
     ensures { result ≡ ended_in (option_copied facts.entry) }
 {
     match facts {
@@ -63,7 +63,7 @@ fn ended_in(facts: Option<&Facts>) -> Option<Ended>
 }
 
 /// Returns the last end in a trace, if the trace leads to the record.
-fn traced_end(facts: Option<&Facts>) -> Option<Ended>
+fn traced_end(facts: Option<&Facts>) -> Option<EndedProcess>
     ensures { result ≡ traced_end (option_copied facts.entry) }
 {
     match facts {

@@ -18,12 +18,14 @@ mod why;
 
 pub use entries::{Kind, before_last, behind_last, is_signal, last_of};
 pub use facts::{
-    Ended, FLAPPING, Facts, facts_of, last_signal, last_want, leads_to, nanos, recent_starts,
-    unasked_starts,
+    EndedProcess, FLAPPING, Facts, facts_of, last_signal, last_want, leads_to, nanos,
+    recent_starts, unasked_starts,
 };
 pub use last_ends::{LastEnd, last_end};
-pub use lines::{Absence, Drawing, Found, Picture, Standing, absence_of, found_line, found_text};
+pub use lines::{
+    Absence, Drawing, Picture, Standing, WhyFinding, absence_of, found_line, found_text,
+};
 pub use sentences::why_line;
 pub use sources::{Evidence, LocalTime, LocalTimes, ServiceEvidence};
-pub use timeline::{Bar, COLUMNS, Shown, Stretch, bar_of, stretches_of};
+pub use timeline::{Bar, COLUMNS, ShownState, Stretch, bar_of, stretches_of};
 pub use why::{WhyFault, read_content, read_exit, run_why};

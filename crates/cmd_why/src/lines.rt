@@ -30,7 +30,7 @@ pub enum Absence {
 
 /// What a look at a service found.
 #[derive(Debug, Drop)]
-pub enum Found {
+pub enum WhyFinding {
     /// No supervisor responds for it.
     Absent(Absence),
     /// It is supervised, and its status can't be read.
@@ -149,27 +149,27 @@ fn said<A: Allocator>(
 pub fn found_line<A: Allocator>(
     alloc: A,
     folder: &str,
-    found: &Found,
+    found: &WhyFinding,
 ) -> Result<String<A>, AllocError>
     ensures { IfOk result (λ line. string_bytes line ≡ found_line folder.now found.now) }
 {
     match found {
-        Found::Absent(absence) => said(alloc, folder, absence_words(*absence), "", ""),
-        Found::Unread => said(
+        WhyFinding::Absent(absence) => said(alloc, folder, absence_words(*absence), "", ""),
+        WhyFinding::Unread => said(
             alloc,
             folder,
             " is supervised, but its status can't be read.",
             "",
             "",
         ),
-        Found::Bad(fault) => said(
+        WhyFinding::Bad(fault) => said(
             alloc,
             folder,
             " is supervised, but its status is no record: ",
             fault_name(*fault),
             ".",
         ),
-        Found::Standing(standing) => why_line(
+        WhyFinding::Standing(standing) => why_line(
             alloc,
             folder,
             &standing.loaded,
@@ -221,17 +221,17 @@ fn push_drawing<A: Allocator>(out: &mut String<A>, drawing: &Drawing) -> Result<
 }
 
 /// Writes what is drawn about what a look found.
-fn push_drawing_in<A: Allocator>(out: &mut String<A>, found: &Found) -> Result<(), AllocError>
+fn push_drawing_in<A: Allocator>(out: &mut String<A>, found: &WhyFinding) -> Result<(), AllocError>
     ensures { OnOk result (string_bytes out.new ≡ string_bytes out.old ++ drawing_lines (drawing_in found.now)) }
 {
     match found {
-        Found::Standing(standing) => push_drawing(out, &standing.drawing),
-        Found::Absent(_) | Found::Unread | Found::Bad(_) => Ok(()),
+        WhyFinding::Standing(standing) => push_drawing(out, &standing.drawing),
+        WhyFinding::Absent(_) | WhyFinding::Unread | WhyFinding::Bad(_) => Ok(()),
     }
 }
 
 /// Returns what follows the line about a look: its newline, and what is drawn, each line with its newline.
-fn found_end<A: Allocator>(alloc: A, found: &Found) -> Result<String<A>, AllocError>
+fn found_end<A: Allocator>(alloc: A, found: &WhyFinding) -> Result<String<A>, AllocError>
     ensures { IfOk result (λ end. string_bytes end ≡ (10 ∷ []) ++ drawing_lines (drawing_in found.now)) }
 {
     let mut end = String::from_str(alloc, "\n")?;
@@ -244,7 +244,7 @@ fn found_end<A: Allocator>(alloc: A, found: &Found) -> Result<String<A>, AllocEr
 pub fn found_text<A: Allocator + Clone>(
     alloc: A,
     folder: &str,
-    found: &Found,
+    found: &WhyFinding,
 ) -> Result<Vec<u8, A>, AllocError>
     ensures { IfOk result (λ text. text.items ≡ found_text folder.now found.now) }
 {

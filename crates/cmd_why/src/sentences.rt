@@ -13,7 +13,7 @@ ghost use Rattle.cmd_why.specs.Sentences.{tenths_text};
 ghost use Rattle.std.specs.Option.{option_copied};
 
 use crate::courses::push_course;
-use crate::facts::{Ended, FLAPPING, Facts, nanos};
+use crate::facts::{EndedProcess, FLAPPING, Facts, nanos};
 use crate::last_ends::{LastEnd, time_of_end};
 use cmd_svc::{Course, is_running, push_number};
 use std::alloc::{AllocError, Allocator};
@@ -354,7 +354,7 @@ fn push_ending<A: Allocator>(out: &mut String<A>, ending: Option<Ending>) -> Res
 /// Writes which process ended, how long it ran, and how it ended.
 fn push_ended<A: Allocator>(
     out: &mut String<A>,
-    ended: &Ended,
+    ended: &EndedProcess,
     ending: Option<Ending>,
 ) -> Result<(), AllocError>
     ensures { OnOk result (string_bytes out.new ≡ string_bytes out.old ++ ended_words ended.now ending) }

@@ -24,7 +24,7 @@ pub type Bar = ArrayString<COLUMNS>;
 
 /// How a service is shown.
 #[derive(Clone, Copy, Debug, PartialEq, Eq)]
-pub enum Shown {
+pub enum ShownState {
     /// There is a process.
     Up,
     /// There is a process, and it was paused for some of that time; a trace does not say when.
@@ -42,40 +42,40 @@ pub enum Shown {
 pub struct Stretch {
     pub from: u128,
     pub to: u128,
-    pub shown: Shown,
+    pub shown: ShownState,
 }
 
 /// Returns how a phase is shown.
-fn shown_in(phase: Phase) -> Shown
+fn shown_in(phase: Phase) -> ShownState
     ensures { result ≡ shown_in phase }
 {
     match phase {
-        Phase::Up => Shown::Up,
-        Phase::Settling | Phase::Resting => Shown::Attempt,
-        Phase::Starting | Phase::Down | Phase::Gone => Shown::Down,
+        Phase::Up => ShownState::Up,
+        Phase::Settling | Phase::Resting => ShownState::Attempt,
+        Phase::Starting | Phase::Down | Phase::Gone => ShownState::Down,
     }
 }
 
 /// Returns how a machine is shown.
-fn shown_of(machine: &Machine) -> Shown
+fn shown_of(machine: &Machine) -> ShownState
     ensures { result ≡ shown_of machine.now }
 {
     if machine.view().paused {
-        return Shown::Paused;
+        return ShownState::Paused;
     }
     shown_in(machine.phase())
 }
 
 /// Returns how the machine before the entries is shown.
-fn shown_before(view: &View) -> Shown
+fn shown_before(view: &View) -> ShownState
     ensures { result ≡ shown_before view.now }
 {
     if view.paused {
-        Shown::Paused
+        ShownState::Paused
     } else if is_running(view) {
-        Shown::Up
+        ShownState::Up
     } else {
-        Shown::Down
+        ShownState::Down
     }
 }
 
@@ -133,7 +133,7 @@ fn behind(now: u128, last: &Stretch, label: &Option<Label>, machine: &Machine) -
             from: last.from,
             to: last.to,
             shown: if machine.view().paused {
-                Shown::Paused
+                ShownState::Paused
             } else {
                 last.shown
             },
@@ -148,7 +148,11 @@ fn tail(leads: bool, last: &Stretch) -> Stretch
     Stretch {
         from: last.from,
         to: last.to,
-        shown: if leads { last.shown } else { Shown::Unknown },
+        shown: if leads {
+            last.shown
+        } else {
+            ShownState::Unknown
+        },
     }
 }
 
@@ -205,64 +209,64 @@ fn has_part(from: u128, to: u128, stretch: &Stretch) -> bool
 }
 
 /// Returns whether both are shown the same way.
-fn same(one: Shown, other: Shown) -> bool
+fn same(one: ShownState, other: ShownState) -> bool
     ensures { result ≡ same one other }
 {
     match (one, other) {
-        (Shown::Up, Shown::Up) => true,
-        (Shown::Paused, Shown::Paused) => true,
-        (Shown::Attempt, Shown::Attempt) => true,
-        (Shown::Down, Shown::Down) => true,
-        (Shown::Unknown, Shown::Unknown) => true,
+        (ShownState::Up, ShownState::Up) => true,
+        (ShownState::Paused, ShownState::Paused) => true,
+        (ShownState::Attempt, ShownState::Attempt) => true,
+        (ShownState::Down, ShownState::Down) => true,
+        (ShownState::Unknown, ShownState::Unknown) => true,
         _ => false,
     }
 }
 
 /// Returns whether a stretch that is shown this way overlaps that time.
-fn stands(from: u128, to: u128, what: Shown, drawn: &[Stretch]) -> bool
+fn stands(from: u128, to: u128, what: ShownState, drawn: &[Stretch]) -> bool
     ensures { result ≡ stands from to what drawn.now }
 {
     drawn.iter().any(|stretch| has_part(from, to, stretch) && same(stretch.shown, what))
 }
 
 /// Returns the one of these that holds, if exactly one does.
-fn alone(up: bool, paused: bool, attempt: bool, down: bool, unknown: bool) -> Option<Shown>
+fn alone(up: bool, paused: bool, attempt: bool, down: bool, unknown: bool) -> Option<ShownState>
     ensures { result ≡ alone up paused attempt down unknown }
 {
     match (up, paused, attempt, down, unknown) {
-        (true, false, false, false, false) => Some(Shown::Up),
-        (false, true, false, false, false) => Some(Shown::Paused),
-        (false, false, true, false, false) => Some(Shown::Attempt),
-        (false, false, false, true, false) => Some(Shown::Down),
-        (false, false, false, false, true) => Some(Shown::Unknown),
+        (true, false, false, false, false) => Some(ShownState::Up),
+        (false, true, false, false, false) => Some(ShownState::Paused),
+        (false, false, true, false, false) => Some(ShownState::Attempt),
+        (false, false, false, true, false) => Some(ShownState::Down),
+        (false, false, false, false, true) => Some(ShownState::Unknown),
         _ => None,
     }
 }
 
 /// Returns what is shown throughout a time, or None if there is more than one.
-fn throughout(from: u128, to: u128, drawn: &[Stretch]) -> Option<Shown>
+fn throughout(from: u128, to: u128, drawn: &[Stretch]) -> Option<ShownState>
     ensures { result ≡ throughout from to drawn.now }
 {
     alone(
-        stands(from, to, Shown::Up, drawn),
-        stands(from, to, Shown::Paused, drawn),
-        stands(from, to, Shown::Attempt, drawn),
-        stands(from, to, Shown::Down, drawn),
-        stands(from, to, Shown::Unknown, drawn),
+        stands(from, to, ShownState::Up, drawn),
+        stands(from, to, ShownState::Paused, drawn),
+        stands(from, to, ShownState::Attempt, drawn),
+        stands(from, to, ShownState::Down, drawn),
+        stands(from, to, ShownState::Unknown, drawn),
     )
 }
 
 /// Returns the sign of a column.
-fn sign(shown: Option<Shown>) -> &'static str
+fn sign(shown: Option<ShownState>) -> &'static str
     ensures sign { result.now ≡ sign shown }
     ensures one { length result.now ≡ 1 }
 {
     match shown {
-        Some(Shown::Up) => "#",
-        Some(Shown::Paused) => "=",
-        Some(Shown::Attempt) => "*",
-        Some(Shown::Down) => ".",
-        Some(Shown::Unknown) => "?",
+        Some(ShownState::Up) => "#",
+        Some(ShownState::Paused) => "=",
+        Some(ShownState::Attempt) => "*",
+        Some(ShownState::Down) => ".",
+        Some(ShownState::Unknown) => "?",
         None => "+",
     }
 }

@@ -14,7 +14,7 @@ ghost use Rattle.cmd_why.specs.Why.{ShowsOne, ShowsUpTo, WhyEnds, WritesNot};
 use crate::courses::time_of_course;
 use crate::facts::{Facts, facts_of, leads_to};
 use crate::last_ends::last_end;
-use crate::lines::{Absence, Drawing, Found, Picture, Standing, absence_of, found_text};
+use crate::lines::{Absence, Drawing, Picture, Standing, WhyFinding, absence_of, found_text};
 use crate::sources::Evidence;
 use crate::timeline::{bar_of, left_end};
 use cmd_base::{DONE, TROUBLE, report, report_device};
@@ -37,7 +37,7 @@ pub enum WhyFault {
 
 /// The result of the calls for a service.
 #[derive(Clone, Copy, Debug, PartialEq, Eq)]
-pub(crate) enum Reach {
+pub(crate) enum ReachOutcome {
     /// No supervisor responds for it.
     Absent(Absence),
     /// Its status can't be read.
@@ -50,21 +50,21 @@ pub(crate) enum Reach {
 
 /// Asks the service in a folder whether it is supervised, then for its status, then for its file `down`, then for
 /// what it does that its status does not say. The first of these that fails ends that.
-fn reach_service<S: Services>(services: &mut S, folder: &str) -> Reach
+fn reach_service<S: Services>(services: &mut S, folder: &str) -> ReachOutcome
     ensures { Reaches folder.now result (S.calls services.old) (S.calls services.new) }
 {
     if let Err(why) = services.reach(folder) {
-        return Reach::Absent(absence_of(why, services.folder_fault(folder)));
+        return ReachOutcome::Absent(absence_of(why, services.folder_fault(folder)));
     }
     let Ok(front) = services.read_status(folder) else {
-        return Reach::Unread;
+        return ReachOutcome::Unread;
     };
     match decode_front(front.as_slice()) {
         Ok(loaded) => {
             let normally_up = !services.has_down(folder);
-            Reach::Standing(loaded, normally_up, ask_course(services, folder, &loaded))
+            ReachOutcome::Standing(loaded, normally_up, ask_course(services, folder, &loaded))
         }
-        Err(fault) => Reach::Bad(fault),
+        Err(fault) => ReachOutcome::Bad(fault),
     }
 }
 
@@ -190,16 +190,16 @@ fn look<S: Services, A: Allocator + Clone, K: Evidence, C: TimeSource>(
     observer: &mut Observer<S, C>,
     sources: &K,
     folder: &str,
-) -> Result<Found, AllocError>
+) -> Result<WhyFinding, AllocError>
     ensures ok { IfOk result (λ found.
         Looks (K.known sources.now) timeline folder.now found observer.old observer.new) }
     ensures err { OnErr result (LooksInPart folder.now observer.old observer.new) }
 {
     match reach_service(&mut observer.services, folder) {
-        Reach::Absent(absence) => Ok(Found::Absent(absence)),
-        Reach::Unread => Ok(Found::Unread),
-        Reach::Bad(fault) => Ok(Found::Bad(fault)),
-        Reach::Standing(loaded, normally_up, course) => Ok(Found::Standing(stand(
+        ReachOutcome::Absent(absence) => Ok(WhyFinding::Absent(absence)),
+        ReachOutcome::Unread => Ok(WhyFinding::Unread),
+        ReachOutcome::Bad(fault) => Ok(WhyFinding::Bad(fault)),
+        ReachOutcome::Standing(loaded, normally_up, course) => Ok(WhyFinding::Standing(stand(
             alloc,
             timeline,
             observer,
@@ -213,13 +213,13 @@ fn look<S: Services, A: Allocator + Clone, K: Evidence, C: TimeSource>(
 }
 
 /// Returns whether a service could not be read.
-fn is_unread(found: &Found) -> bool
+fn is_unread(found: &WhyFinding) -> bool
     ensures { result ≡ is_unread found.now }
 {
     match found {
-        Found::Absent(absence) => *absence != Absence::Nobody,
-        Found::Unread | Found::Bad(_) => true,
-        Found::Standing(_) => false,
+        WhyFinding::Absent(absence) => *absence != Absence::Nobody,
+        WhyFinding::Unread | WhyFinding::Bad(_) => true,
+        WhyFinding::Standing(_) => false,
     }
 }
 
@@ -227,7 +227,7 @@ fn is_unread(found: &Found) -> bool
 fn write_text<A: Allocator + Clone, W: Write>(
     alloc: &A,
     folder: &str,
-    found: &Found,
+    found: &WhyFinding,
     writer: &mut Output<W>,
 ) -> Result<(), WhyFault>
     ensures ok { OnOk result (Wrote writer.old writer.new (found_text folder.now found.now)) }

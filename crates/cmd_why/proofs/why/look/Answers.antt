@@ -1,7 +1,7 @@
 use Rattle.std.proofs.Common.{rules, ◌≡◌, refl}
 use Rattle.svc_client.specs.Sight.{sight}
 use Rattle.cmd_why.specs.Why.{Reaches}
-use Rattle.cmd_why.specs.declared.why.Reach.TheVariants as reach
+use Rattle.cmd_why.specs.declared.why.ReachOutcome.TheVariants as reach
 use Rattle.cmd_why.proofs.why.look.Goals as goal
 
 pub returns-in-Absent-clause-ok : goal.returns-in-Absent-clause-ok
