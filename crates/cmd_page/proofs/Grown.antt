@@ -7,7 +7,7 @@ use Rattle.std.proofs.lemmas.Grind.{flat_map-append}
 use Rattle.tai_status.specs.Label.{Tai64n}
 use Rattle.svc_client.specs.Sight.{Sight}
 use Rattle.cmd_why.specs.Texts.{Knowledge}
-use Rattle.cmd_report.specs.declared.found.Found.{Found}
+use Rattle.cmd_report.specs.declared.found.FoundService.{FoundService}
 use Rattle.cmd_report.specs.Finds.{FindsOne, FindsWords, folders_of}
 use Rattle.cmd_report.proofs.Finds.{finds_words-then}
 use Rattle.cmd_page.specs.Escape.{escaped}
@@ -19,10 +19,10 @@ all-then : (P : Row → Type 0) (rows : List Row) (row : Row) → AllByRecursion
 all-then P [] row all one = (one, tt)
 all-then P (first ∷ rows) row all one = (all.0, all-then P rows row all.1 one)
 
-pub founds-then : (rows : List Row) (row : Row) (found : Found) → row.found ≡ found
+pub founds-then : (rows : List Row) (row : Row) (found : FoundService) → row.found ≡ found
     → founds_of rows ++ found ∷ [] ≡ founds_of (rows ++ row ∷ [])
 founds-then rows row found is =
-    sym (map-append (λ (r : Row). r.found) rows (row ∷ []) ∙ ap (λ (f : Found). founds_of rows ++ f ∷ []) is)
+    sym (map-append (λ (r : Row). r.found) rows (row ∷ []) ∙ ap (λ (f : FoundService). founds_of rows ++ f ∷ []) is)
 
 last-row : (now : Tai64n) (row : Row) → flat_map (row_text now) (row ∷ []) ≡ row_text now row
 last-row now row = append-nil (row_text now row)
@@ -39,12 +39,12 @@ grown now rows row before text after done one =
 
 -- One more service
 pub adds_rows-then : (known : Knowledge) (now : Tai64n) (words : List (List ℕ)) (word : List ℕ) (old middle new : Sight)
-    (before text after : List ℕ) (found : Found) → AddsRows known now words old middle before text
+    (before text after : List ℕ) (found : FoundService) → AddsRows known now words old middle before text
     → FindsOne found middle new → found.folder.now ≡ word → AddsRow known now found text after
     → AddsRows known now (words ++ word ∷ []) old new before after
 adds_rows-then known now words word old middle new before text after found done one same adds = record {
   rows = done.rows ++ adds.row ∷ [];
-  finds = subst (λ (founds : List Found). FindsWords (words ++ word ∷ []) founds old new)
+  finds = subst (λ (founds : List FoundService). FindsWords (words ++ word ∷ []) founds old new)
       (founds-then done.rows adds.row found adds.found_is)
       (finds_words-then words (founds_of done.rows) word found old middle new done.finds same one);
   are = all-then (IsRow known) done.rows adds.row done.are adds.is;

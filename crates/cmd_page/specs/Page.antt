@@ -19,18 +19,18 @@ use Rattle.cmd_svc.specs.declared.look.ServiceLook.{ServiceLook}
 use Rattle.cmd_svc.specs.declared.look.ServiceLook.TheVariants as look
 use Rattle.cmd_why.specs.Facts.{leads_to}
 use Rattle.cmd_why.specs.Sentences.{signal_text}
-use Rattle.cmd_report.specs.declared.found.Found.{Found}
+use Rattle.cmd_report.specs.declared.found.FoundService.{FoundService}
 use Rattle.cmd_page.specs.Escape.{escaped}
 use Rattle.cmd_page.specs.Picture.{picture, restarts_text}
 
 -- What is in the row of a service: what a look found, its trace if there is a readable one, and the local time of its
 -- last change of process. If that is not known, there is no such time.
 pub record Row : Type 0 where
-  pub found : Found
+  pub found : FoundService
   pub trace : Option Content
   pub since : List ℕ
 
-abbrev pub row : (found : Found) (trace : Option Content) (since : List ℕ) → Row
+abbrev pub row : (found : FoundService) (trace : Option Content) (since : List ℕ) → Row
 row found trace since = record { found = found; trace = trace; since = since }
 
 -- Cells

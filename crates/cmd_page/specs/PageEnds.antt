@@ -14,7 +14,7 @@ use Rattle.cmd_svc.specs.declared.svstat.SvstatFault.TheVariants as why
 use Rattle.cmd_why.specs.Texts.{Knowledge}
 use Rattle.cmd_why.specs.Why.{IsTraceOf}
 use Rattle.cmd_report.specs.Finds.{FindsFront, FindsWords}
-use Rattle.cmd_report.specs.declared.found.Found.{Found}
+use Rattle.cmd_report.specs.declared.found.FoundService.{FoundService}
 use Rattle.cmd_page.specs.Page.{Row, page_text, row_text, status_of}
 
 -- the local time of the last change of process, if a status was read
@@ -27,11 +27,11 @@ pub record IsRow (known : Knowledge) (row : Row) : Type 0 where
   pub trace : IsTraceOf (known.traces row.found.folder.now) row.trace
   pub since : IsSince known.times (status_of row.found.look) row.since
 
-abbrev pub founds_of : List Row → List Found
+abbrev pub founds_of : List Row → List FoundService
 founds_of rows = map (λ row. row.found) rows
 
 -- A text grew by the row of a service about which this was found.
-pub record AddsRow (known : Knowledge) (now : Tai64n) (found : Found) (before after : List ℕ) : Type 0 where
+pub record AddsRow (known : Knowledge) (now : Tai64n) (found : FoundService) (before after : List ℕ) : Type 0 where
   pub row : Row
   pub found_is : row.found ≡ found
   pub is : IsRow known row

@@ -7,7 +7,7 @@ ghost use Rattle.cmd_page.specs.PageEnds.{AddsRow, AddsRows, Draws, DrawsNone, I
 
 use crate::cells::status_of;
 use crate::page::{push_end, push_head, push_row};
-use cmd_report::{Found, find_one};
+use cmd_report::{FoundService, find_one};
 use cmd_why::{Evidence, LocalTime, read_content};
 use std::alloc::{AllocError, Allocator};
 use svc_client::{Observer, Services};
@@ -36,7 +36,7 @@ fn add_row<K: Evidence, A: Allocator + Clone>(
     page: &mut Vec<u8, A>,
     sources: &K,
     now: &Label,
-    found: &Found,
+    found: &FoundService,
 ) -> Result<(), AllocError>
     ensures { OnOk result (AddsRow (K.known sources.now) now.now found.now page.old.items page.new.items) }
 {

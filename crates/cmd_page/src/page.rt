@@ -11,7 +11,7 @@ use crate::cells::{
 };
 use crate::escape::push_escaped;
 use crate::text::push_text;
-use cmd_report::Found;
+use cmd_report::FoundService;
 use std::alloc::{AllocError, Allocator};
 use sup_trace::TraceText;
 use svc_record::Exit;
@@ -194,7 +194,7 @@ fn push_cells<A: Allocator + Clone, B: Allocator>(
     alloc: &A,
     out: &mut Vec<u8, A>,
     now: &Label,
-    found: &Found,
+    found: &FoundService,
     content: Option<&TraceText<B>>,
     since: &str,
 ) -> Result<(), AllocError>
@@ -248,7 +248,7 @@ pub fn push_row<A: Allocator + Clone, B: Allocator>(
     alloc: &A,
     out: &mut Vec<u8, A>,
     now: &Label,
-    found: &Found,
+    found: &FoundService,
     content: Option<&TraceText<B>>,
     since: &str,
 ) -> Result<(), AllocError>

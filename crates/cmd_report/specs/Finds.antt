@@ -11,7 +11,7 @@ use Rattle.cmd_why.specs.Why.{ReadsExit}
 use Rattle.svc_record.specs.declared.counts.Counts.{Counts}
 use Rattle.svc_record.specs.declared.exit.Exit.{Exit}
 use Rattle.cmd_report.specs.Counts.{counts_in}
-use Rattle.cmd_report.specs.declared.found.Found.{Found}
+use Rattle.cmd_report.specs.declared.found.FoundService.{FoundService}
 
 -- the counts in the text of a file, if it could be read
 abbrev pub counts_of : (text : Option (List ℕ)) → Option Counts
@@ -39,27 +39,27 @@ SeeksPast (look.Standing loaded normally_up at course) folder counts last past n
 SeeksPast other folder counts last past now = (counts ≡ None) × (last ≡ None) × (now ≡ past)
 
 -- The service in a folder was looked at, and this was found.
-pub record FindsOne (found : Found) (old new : Sight) : Type 0 where
+pub record FindsOne (found : FoundService) (old new : Sight) : Type 0 where
   pub asked : Option (List Call)
   pub finds : Finds found.folder.now found.look old (sight asked new.readings)
   pub seeks : SeeksPast found.look found.folder.now found.counts found.last asked new.calls
 
 -- These were found, one after the other.
-abbrev pub FindsAll : List Found → (old new : Sight) → Type 0
+abbrev pub FindsAll : List FoundService → (old new : Sight) → Type 0
 FindsAll [] old new = new ≡ old
 FindsAll (found ∷ founds) old new = (middle : Sight) × (FindsOne found old middle × FindsAll founds middle new)
 
-abbrev pub folders_of : List Found → List (List ℕ)
+abbrev pub folders_of : List FoundService → List (List ℕ)
 folders_of founds = map (λ found. found.folder.now) founds
 
 -- Each word was looked at, in order, and this was found.
-pub record FindsWords (words : List (List ℕ)) (founds : List Found) (old new : Sight) : Type 0 where
+pub record FindsWords (words : List (List ℕ)) (founds : List FoundService) (old new : Sight) : Type 0 where
   pub words_are : words ≡ folders_of founds
   pub finds : FindsAll founds old new
 
 -- There was no memory: some words at the front were looked at.
 pub record FindsFront (words : List (List ℕ)) (old new : Sight) : Type 0 where
-  pub founds : List Found
+  pub founds : List FoundService
   pub rest : List (List ℕ)
   pub words_are : words ≡ folders_of founds ++ rest
   pub finds : FindsAll founds old new

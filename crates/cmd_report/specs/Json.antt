@@ -23,7 +23,7 @@ use Rattle.svc_record.specs.declared.exit.Exit.{Exit}
 use Rattle.cmd_report.specs.Metrics.{backoff_in, deaths_in, is_finishing, ready_in, signal_of, starts_in}
 use Rattle.cmd_report.specs.Metrics.{status_of, unix_second}
 use Rattle.svc_record.specs.declared.counts.Counts.{Counts}
-use Rattle.cmd_report.specs.declared.found.Found.{Found}
+use Rattle.cmd_report.specs.declared.found.FoundService.{FoundService}
 
 -- These tokens were written after those that were there.
 pub record Adds (old new : Written) (more : List Token) : Type 0 where
@@ -145,11 +145,11 @@ look_members (look.Standing loaded normally_up now course) counts last =
 
 -- Lines
 
-abbrev pub found_tokens : Found → List Token
+abbrev pub found_tokens : FoundService → List Token
 found_tokens found =
     begin_object ∷ [] ++ string_member (codes "path") found.folder.now
     ++ look_members found.look found.counts found.last ++ end_object ∷ []
 
 -- the line about what was found about a service, without a newline
-abbrev pub json_line : Found → List ℕ
+abbrev pub json_line : FoundService → List ℕ
 json_line found = print (found_tokens found)

@@ -9,11 +9,11 @@ use Rattle.svc_client.specs.Turns.{InTurn}
 use Rattle.cmd_svc.specs.declared.svstat.SvstatFault.{SvstatFault}
 use Rattle.cmd_report.specs.Finds.{FindsOne}
 use Rattle.cmd_report.specs.Json.{json_line}
-use Rattle.cmd_report.specs.declared.found.Found.{Found}
+use Rattle.cmd_report.specs.declared.found.FoundService.{FoundService}
 
 -- The service in a folder was looked at, and then the line about what was found was written.
 pub record Shows (folder : List ℕ) (old new : Scene) : Type 0 where
-  pub found : Found
+  pub found : FoundService
   pub folder_is : found.folder.now ≡ folder
   pub finds : FindsOne found old.sight new.sight
   pub wrote : Wrote old.writer new.writer (json_line found ++ 10 ∷ [])
@@ -21,7 +21,7 @@ pub record Shows (folder : List ℕ) (old new : Scene) : Type 0 where
 
 -- The service in a folder was looked at, and the line about what was found was not written.
 pub record ShowsNot (folder : List ℕ) (cause : SvstatFault) (old new : Scene) : Type 0 where
-  pub found : Found
+  pub found : FoundService
   pub folder_is : found.folder.now ≡ folder
   pub finds : FindsOne found old.sight new.sight
   pub unwritten : WritesNot cause (json_line found ++ 10 ∷ []) old.writer new.writer

@@ -20,7 +20,7 @@ use Rattle.svc_record.specs.declared.ending.Ending.{Ending}
 use Rattle.svc_record.specs.declared.ending.Ending.TheVariants.{Status, Signal}
 use Rattle.svc_record.specs.declared.exit.Exit.{Exit}
 use Rattle.svc_record.specs.declared.counts.Counts.{Counts}
-use Rattle.cmd_report.specs.declared.found.Found.{Found}
+use Rattle.cmd_report.specs.declared.found.FoundService.{FoundService}
 use Rattle.cmd_report.specs.declared.samples.Sample.{Sample}
 use Rattle.cmd_report.specs.declared.samples.Sample.TheVariants as sample
 
@@ -97,7 +97,7 @@ signal_of_last None = None
 signal_of_last (Some exit) = signal_of exit.ending
 
 -- the value of a sample of a service, if there is one
-unfoldable pub value_in : Sample → Found → Option ℕ
+unfoldable pub value_in : Sample → FoundService → Option ℕ
 value_in sample.Supervised found = Some (flag_byte (is_supervised found.look))
 value_in sample.Starts found = starts_in found.counts
 value_in sample.Deaths found = deaths_in found.counts
@@ -154,7 +154,7 @@ abbrev pub line_of_value : Sample → (folder : List ℕ) → Option ℕ → Lis
 line_of_value sample folder None = []
 line_of_value sample folder (Some value) = valued_line sample folder value
 
-abbrev pub sample_line : Sample → Found → List ℕ
+abbrev pub sample_line : Sample → FoundService → List ℕ
 sample_line sample found = line_of_value sample found.folder.now (value_in sample found)
 
 -- what a metric says, in words
@@ -193,7 +193,7 @@ head_text (sample.InPhase other) = []
 head_text sample = metric_head sample
 
 -- a sample of each service that has it
-abbrev pub sample_lines : Sample → List Found → List ℕ
+abbrev pub sample_lines : Sample → List FoundService → List ℕ
 sample_lines sample founds = head_text sample ++ flat_map (sample_line sample) founds
 
 -- all samples, with those of one metric together
@@ -204,5 +204,5 @@ all_samples =
     ∷ sample.InPhase phase.Gone ∷ sample.WantedUp ∷ sample.Paused ∷ sample.Ready ∷ sample.Finishing
     ∷ sample.BackingOff ∷ sample.Starts ∷ sample.Deaths ∷ sample.LastStatus ∷ sample.LastSignal ∷ []
 
-unfoldable pub metrics_text : List Found → List ℕ
+unfoldable pub metrics_text : List FoundService → List ℕ
 metrics_text founds = flat_map (λ sample. sample_lines sample founds) all_samples

@@ -8,13 +8,13 @@ use Rattle.cmd_svc.specs.Svstat.{Scene, scene, svstat_report}
 use Rattle.cmd_svc.specs.declared.svstat.SvstatFault.TheVariants as why
 use Rattle.cmd_report.specs.Metrics.{metrics_text}
 use Rattle.cmd_report.specs.Finds.{FindsFront, FindsWords}
-use Rattle.cmd_report.specs.declared.found.Found.{Found}
+use Rattle.cmd_report.specs.declared.found.FoundService.{FoundService}
 
 -- Each word was looked at, and everything was written. Then it is reported for each folder that does not exist why, and
 -- nothing else is reported.
 pub record WritesAll (words : List (List ℕ)) (status : ℕ) (old new : Scene)
     (faults reports : Device) : Type 0 where
-  pub founds : List Found
+  pub founds : List FoundService
   pub asked : Option (List Call)
   pub finds : FindsWords words founds old.sight (sight asked new.sight.readings)
   pub wrote : Wrote old.writer new.writer (metrics_text founds)
@@ -25,7 +25,7 @@ pub record WritesAll (words : List (List ℕ)) (status : ℕ) (old new : Scene)
 -- Each word was looked at, and the writer failed after a front of the text.
 pub record WritesFront (words : List (List ℕ)) (status : ℕ) (old new : Scene)
     (faults reports : Device) : Type 0 where
-  pub founds : List Found
+  pub founds : List FoundService
   pub finds : FindsWords words founds old.sight new.sight
   pub wrote : WroteFront old.writer new.writer (metrics_text founds)
   pub fails : Fails old.writer new.writer

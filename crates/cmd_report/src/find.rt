@@ -4,7 +4,7 @@ ghost use Rattle.tai_status.specs.Words.{texts};
 ghost use Rattle.cmd_report.specs.Finds.{FindsFront, FindsOne, FindsWords, ReadsCounts, SeeksPast};
 
 use crate::counts::counts_in;
-use crate::found::Found;
+use crate::found::FoundService;
 use cmd_svc::{ServiceLook, look_at};
 use cmd_why::read_exit;
 use std::alloc::{AllocError, Allocator};
@@ -43,13 +43,13 @@ fn read_past<S: Services>(
 pub fn find_one<'a, S: Services, C: TimeSource>(
     observer: &mut Observer<S, C>,
     folder: &'a str,
-) -> Found<'a>
+) -> FoundService<'a>
     ensures finds { FindsOne result observer.old observer.new }
     ensures folder { result.folder.now ≡ folder.now }
 {
     let look = look_at(&mut observer.services, &mut observer.clock, folder);
     let (counts, last) = read_past(&mut observer.services, folder, &look);
-    Found {
+    FoundService {
         folder,
         look,
         counts,
@@ -62,7 +62,7 @@ pub(crate) fn find_all<'a, S, A, C>(
     alloc: A,
     observer: &mut Observer<S, C>,
     folders: &[&'a str],
-) -> Result<Vec<Found<'a>, A>, AllocError>
+) -> Result<Vec<FoundService<'a>, A>, AllocError>
 where
     S: Services,
     A: Allocator,

@@ -4,7 +4,7 @@ use svc_record::{Counts, Exit};
 
 /// What was found about the service in a folder.
 #[derive(Clone, Copy, Debug)]
-pub struct Found<'a> {
+pub struct FoundService<'a> {
     pub folder: &'a str,
     pub look: ServiceLook,
     /// Its counts, if its status was read and its file `counts` has them.

@@ -16,7 +16,7 @@ mod samples;
 pub use command::run_report;
 pub use counts::counts_in;
 pub use find::find_one;
-pub use found::Found;
+pub use found::FoundService;
 pub use laws::{labels_read, same_words};
 pub use lines::run_json;
 pub use metrics::metrics_text;

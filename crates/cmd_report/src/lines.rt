@@ -8,7 +8,7 @@ ghost use Rattle.cmd_report.specs.Json.{json_line};
 ghost use Rattle.cmd_report.specs.JsonEnds.{JsonEnds, Shows, ShowsNot, ShowsUpTo};
 
 use crate::find::find_one;
-use crate::found::Found;
+use crate::found::FoundService;
 use crate::objects::json_line;
 use cmd_base::DONE;
 use cmd_svc::{SvstatFault, report_svstat, tell_missing};
@@ -18,7 +18,10 @@ use svc_client::{Observer, Services};
 use tai_status::{Output, TimeSource};
 
 /// Returns the line about what was found about a service, with its newline.
-fn whole_line<A: Allocator + Clone>(alloc: &A, found: &Found) -> Result<Vec<u8, A>, AllocError>
+fn whole_line<A: Allocator + Clone>(
+    alloc: &A,
+    found: &FoundService,
+) -> Result<Vec<u8, A>, AllocError>
     ensures { IfOk result (λ line. line.items ≡ json_line found.now ++ 10 ∷ []) }
 {
     let mut line = json_line(alloc.clone()?, found)?;
@@ -29,7 +32,7 @@ fn whole_line<A: Allocator + Clone>(alloc: &A, found: &Found) -> Result<Vec<u8, 
 /// Writes the line about what was found about a service.
 fn write_line<A: Allocator + Clone, W: Write>(
     alloc: &A,
-    found: &Found,
+    found: &FoundService,
     writer: &mut Output<W>,
 ) -> Result<(), SvstatFault>
     ensures ok { OnOk result (Wrote writer.old writer.new (json_line found.now ++ 10 ∷ [])) }

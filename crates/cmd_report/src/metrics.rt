@@ -3,7 +3,7 @@ ghost use Rattle.std.specs.Prelude.{◌≡◌, ◌++◌, decimal, flat_map, IfOk
 ghost use Rattle.cmd_report.specs.Metrics.{head_text, label_byte, label_text, line_of_value, metric_head};
 ghost use Rattle.cmd_report.specs.Metrics.{metrics_text, more_labels, sample_line, sample_lines, value_end, valued_line};
 
-use crate::found::Found;
+use crate::found::FoundService;
 use crate::samples::{Sample, metric_help, metric_name, metric_type, value_in};
 use itoa::Buffer;
 use std::alloc::{AllocError, Allocator};
@@ -37,7 +37,10 @@ const SAMPLES: [Sample; 19] = [
 /// these one line for each service that has a value of it, in the order of the services. Returns `AllocError` only if
 /// the allocator refuses the memory for the text.
 #[tactic(auto, unfolding(crate::specs::Metrics::metrics_text))]
-pub fn metrics_text<A: Allocator>(alloc: A, founds: &[Found]) -> Result<Vec<u8, A>, AllocError>
+pub fn metrics_text<A: Allocator>(
+    alloc: A,
+    founds: &[FoundService],
+) -> Result<Vec<u8, A>, AllocError>
     ensures { IfOk result (λ text. text.items ≡ metrics_text founds.now) }
 {
     let mut out = Vec::new(alloc);
@@ -49,7 +52,7 @@ pub fn metrics_text<A: Allocator>(alloc: A, founds: &[Found]) -> Result<Vec<u8, 
 fn push_samples<A: Allocator>(
     out: &mut Vec<u8, A>,
     samples: &[Sample],
-    founds: &[Found],
+    founds: &[FoundService],
 ) -> Result<(), AllocError>
     ensures { OnOk result (out.new.items
         ≡ out.old.items ++ flat_map (λ sample. sample_lines sample founds.now) samples.now) }
@@ -71,7 +74,7 @@ fn push_text<A: Allocator>(out: &mut Vec<u8, A>, text: &str) -> Result<(), Alloc
 fn push_sample<A: Allocator>(
     out: &mut Vec<u8, A>,
     sample: Sample,
-    founds: &[Found],
+    founds: &[FoundService],
 ) -> Result<(), AllocError>
     ensures { OnOk result (out.new.items ≡ out.old.items ++ sample_lines sample founds.now) }
 {
@@ -110,7 +113,7 @@ fn push_metric<A: Allocator>(out: &mut Vec<u8, A>, sample: Sample) -> Result<(),
 fn push_lines<A: Allocator>(
     out: &mut Vec<u8, A>,
     sample: Sample,
-    founds: &[Found],
+    founds: &[FoundService],
 ) -> Result<(), AllocError>
     ensures { OnOk result (out.new.items ≡ out.old.items ++ flat_map (sample_line sample) founds.now) }
 {
@@ -124,7 +127,7 @@ fn push_lines<A: Allocator>(
 fn push_found<A: Allocator>(
     out: &mut Vec<u8, A>,
     sample: Sample,
-    found: &Found,
+    found: &FoundService,
 ) -> Result<(), AllocError>
     ensures { OnOk result (out.new.items ≡ out.old.items ++ sample_line sample found.now) }
 {

@@ -8,7 +8,7 @@ ghost use Rattle.cmd_report.specs.Json.{json_line, known_member, last_member, lo
 ghost use Rattle.cmd_report.specs.Json.{past_members, phase_member, pid_member, process_members, side_name};
 ghost use Rattle.cmd_report.specs.Json.{standing_members, string_member, unreached_text, unreached_members, want_name};
 
-use crate::found::Found;
+use crate::found::FoundService;
 use crate::samples::{
     backoff_in, deaths_in, is_finishing, ready_in, signal_of, starts_in, status_of, unix_second,
 };
@@ -47,7 +47,7 @@ use tai_status::{Label, Loaded, RecordFault, View, Want, phase_name};
 ///
 /// In a string, `"`, `\` and bytes below 32 are escaped, and everything else is unchanged. Returns `AllocError` only if
 /// the allocator refuses the memory for the line.
-pub fn json_line<A: Allocator>(alloc: A, found: &Found) -> Result<Vec<u8, A>, AllocError>
+pub fn json_line<A: Allocator>(alloc: A, found: &FoundService) -> Result<Vec<u8, A>, AllocError>
     ensures text { IfOk result (λ line. line.items ≡ json_line found.now) }
     ensures reads_back { IfOk result (λ line. tokens line.items ≡ found_tokens found.now) }
 {
@@ -123,7 +123,7 @@ fn add_known<A: Allocator>(
 }
 
 /// Writes the members after the path.
-fn add_members<A: Allocator>(writer: &mut Writer<A>, found: &Found) -> Result<(), AllocError>
+fn add_members<A: Allocator>(writer: &mut Writer<A>, found: &FoundService) -> Result<(), AllocError>
     ensures { OnOk result (Adds writer.old writer.new (look_members found.now.look found.now.counts found.now.last)) }
 {
     match &found.look {

@@ -6,7 +6,7 @@ ghost use Rattle.cmd_report.specs.Metrics.{deaths_in, is_supervised, look_value,
 ghost use Rattle.cmd_report.specs.Metrics.{signal_of, signal_of_last, standing_value, starts_in, status_of};
 ghost use Rattle.cmd_report.specs.Metrics.{backoff_in, is_finishing, ready_in, status_of_last, unix_second, value_in};
 
-use crate::found::Found;
+use crate::found::FoundService;
 use cmd_svc::{Course, ServiceLook, is_running};
 use svc_record::{Counts, Ending, Exit};
 use tai_status::{Label, Loaded, Phase, Want, phase_name};
@@ -49,7 +49,7 @@ pub enum Sample {
 /// process ended in that way. There is one for a phase if its record has 20 bytes, and for the others if its status was
 /// read.
 #[tactic(auto, unfolding(crate::specs::Metrics::value_in))]
-pub fn value_in(sample: Sample, found: &Found) -> Option<u64>
+pub fn value_in(sample: Sample, found: &FoundService) -> Option<u64>
     ensures { result ≡ value_in sample found.now }
 {
     match sample {

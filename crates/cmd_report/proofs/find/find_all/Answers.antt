@@ -1,7 +1,7 @@
 use Rattle.std.proofs.Common.{rules, ◌≡◌, ◌+◌, ◌<◌, ◌++◌, ◌∷◌, ℕ, List, [], take, drop, map, length, get_or, sym, ap}
 use Rattle.std.proofs.Common.{◌∙◌, subst, append_assoc, Bor}
 use Rattle.svc_client.proofs.Turns.{taken-one, parts-at}
-use Rattle.cmd_report.specs.declared.found.Found.{Found}
+use Rattle.cmd_report.specs.declared.found.FoundService.{FoundService}
 use Rattle.cmd_report.specs.Finds.{FindsWords}
 use Rattle.cmd_report.proofs.Finds.{finds_words-then}
 use Rattle.cmd_report.proofs.find.find_all.Goals as goal
@@ -50,6 +50,6 @@ loop-folder-preserved g c =
     let all = finds_words-then (map now (take i folders)) c.loop-folder.founds.items folder found old middle new
     c.loop-folder.invariant same c.find_one-found.ensures.finds in
     let pushed : c.push.new.self.items ≡ c.loop-folder.founds.items ++ found ∷ [] = search rules in
-    subst (λ (items : List Found). FindsWords (map now (take (i + 1) folders)) items old new) (sym pushed)
+    subst (λ (items : List FoundService). FindsWords (map now (take (i + 1) folders)) items old new) (sym pushed)
     (subst (λ (words : List (List ℕ)). FindsWords words (c.loop-folder.founds.items ++ found ∷ []) old new)
     (sym (taken-one now folders i nowhere within)) all)
