@@ -66,8 +66,8 @@ enum ReadySource {
     Known(Label),
 }
 
-/// The children of one service on this system. It says nothing to contracts, except that a child has a number, and the
-/// death of which adopted process it looks for.
+/// The children of one service on this system. It says nothing to contracts, except that a child has a number, and which
+/// adopted process it watches.
 #[derive(Drop)]
 pub struct SystemChildren<R>
 where
