@@ -2414,6 +2414,31 @@ unchanged() {
   soon 'one after a rest' 8 is_up d/third
 }
 
+# A service is known by its name. If the name leads to another folder, the service goes on in the old one until it is ended there.
+switched() {
+  local before
+  mkdir d
+  sleeper old
+  sleeper new
+  sleeper d/replaced
+  ln -s ../old d/web
+  start reported d
+  soon 'up' 5 all_are is_settled d/web d/replaced
+  before=$(process old)
+  ln -sfn ../new d/web
+  mv d/replaced kept
+  sleeper d/replaced
+  sleeper d/later
+  soon 'a round later' 8 is_up d/later
+  is 'the old one goes on' "$before" "$(process old)"
+  so 'its process too' lives "$before"
+  is 'nobody serves the new folders' '100 100' "$(is_served new; echo $?) $(is_served d/replaced; echo $?)"
+  svc -dx old kept
+  soon 'the new folders have the services now' 8 all_are is_up new d/replaced
+  is 'each folder had one start' '1 1 1 1' "$(count old/starts) $(count new/starts) $(count kept/starts) $(count d/replaced/starts)"
+  is 'nothing is said' '' "$(cat reported)"
+}
+
 # What is in the folder when a service begins anew counts, though rounds passed in which it was not looked at.
 begins_anew() {
   mkdir d
@@ -3139,7 +3164,7 @@ play_all() {
 scenarios=(life modes_kept delegated exits endings finishes bounded_finish timed_kill timed_kill_left ready ready_left bridged backs_off backs_off_left killed_finish no_run links stubborn killed_service killed_svscan killed_early unnamed starved unwritten new_boot other_user earlier_record elsewhere changes twice names silent
   connections no_supervise unheard rounds untaken itself refused last_words upgraded unread ordered first_process two_services child begins_anew shortage
   descriptors_reported batches unchanged resting full_disk full_put_down placeless held_locks held_pair many_bytes raised_limit
-  odd_environment unreaped bounded_end no_folder folder_away apart fifos fifos_left odd_settings led_away copied)
+  odd_environment unreaped bounded_end no_folder folder_away apart fifos fifos_left odd_settings led_away copied switched)
 # These keep every processor busy, and have the machine for themselves.
 crowds=(killed_logger late_logger last_entries given_back many)
 shift
