@@ -2414,6 +2414,31 @@ unchanged() {
   soon 'one after a rest' 8 is_up d/third
 }
 
+# Somebody removes the folder supervise of services that run, as rsync --delete does. Each one that ends is started again, and
+# its process is in its place again. The next svscan serves it, and starts no second copy.
+bared() {
+  local name names=(plain pair) before
+  mkdir d
+  for name in "${names[@]}"; do sleeper "d/$name"; done
+  logger d/pair/log
+  start reported d
+  soon 'up' 5 all_are is_settled d/plain d/pair d/pair/log
+  for name in "${names[@]}"; do
+    before=$(process "d/$name")
+    rm -r "d/$name/supervise"
+    kill -KILL "$before"
+    soon "$name: starts again" 8 has_lines 2 "d/$name/starts"
+    soon "$name: its place names the process" 5 holds "^$(tail -n 1 "d/$name/starts") " "d/$name/supervise/place"
+    is "$name: a folder for its owner alone" 700 "$(stat -c %a "d/$name/supervise")"
+    is "$name: its record too" "$(tail -n 1 "d/$name/starts")" "$(process "d/$name")"
+  done
+  svc -q d/.svscan
+  soon 'svscan has ended' 10 is_gone "$svscan"
+  start reported2 d
+  soon 'the next one serves them' 10 all_are is_settled d/plain d/pair d/pair/log
+  for name in "${names[@]}"; do is "$name: no second copy" 2 "$(count "d/$name/starts")"; done
+}
+
 # A service is known by its name. If the name leads to another folder, the service goes on in the old one until it is ended there.
 switched() {
   local before
@@ -3164,7 +3189,7 @@ play_all() {
 scenarios=(life modes_kept delegated exits endings finishes bounded_finish timed_kill timed_kill_left ready ready_left bridged backs_off backs_off_left killed_finish no_run links stubborn killed_service killed_svscan killed_early unnamed starved unwritten new_boot other_user earlier_record elsewhere changes twice names silent
   connections no_supervise unheard rounds untaken itself refused last_words upgraded unread ordered first_process two_services child begins_anew shortage
   descriptors_reported batches unchanged resting full_disk full_put_down placeless held_locks held_pair many_bytes raised_limit
-  odd_environment unreaped bounded_end no_folder folder_away apart fifos fifos_left odd_settings led_away copied switched)
+  odd_environment unreaped bounded_end no_folder folder_away apart fifos fifos_left odd_settings led_away copied switched bared)
 # These keep every processor busy, and have the machine for themselves.
 crowds=(killed_logger late_logger last_entries given_back many)
 shift

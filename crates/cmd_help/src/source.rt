@@ -4,4 +4,4 @@
 pub(crate) const KIT: &str = "rattle-kit-13f logic dac8208d650f15bf";
 
 /// The sum of its sources, as packaging/source-sum says it.
-pub(crate) const SOURCE: &str = "d805d218ccc8f39665a6112d2e1edb04b3f24fee61b8bbaa9a5b1a32165cb1c9";
+pub(crate) const SOURCE: &str = "27bde0989fcde2731704d71315ee83e5210dad392f7e881a269af037abbdc607";

@@ -250,7 +250,8 @@ impl ServiceFolder {
         self.replace_with(file, new, content, None)
     }
 
-    /// Replaces a file as a whole, by one with this content and this access.
+    /// Replaces a file as a whole, by one with this content and this access. Makes the folder `supervise` again if somebody
+    /// has removed it.
     #[inline(never)]
     fn replace_with(
         &self,
@@ -263,8 +264,20 @@ impl ServiceFolder {
         requires new { length new.now ≤ 23 }
     {
         let new = self.path(new);
-        write_private(&self.files, new.as_str(), content, access)?;
+        match write_private(&self.files, new.as_str(), content, access) {
+            Err(fault) if fault.kind() == ErrorKind::NotFound => {
+                self.make_supervise()?;
+                write_private(&self.files, new.as_str(), content, access)?;
+            }
+            written => written?,
+        }
         fs::rename(&self.files, new.as_str(), self.path(file).as_str())
+    }
+
+    /// Makes the folder `supervise`.
+    #[inline(never)]
+    fn make_supervise(&self) -> io::Result<()> {
+        make_supervise(&self.files, self.files.alloc(), self.path(".").as_str())
     }
 
     /// Replaces the status record by these bytes. If that fails, as on a full device, writes them over the old record.
