@@ -2421,7 +2421,7 @@ bared() {
   mkdir d
   for name in "${names[@]}"; do sleeper "d/$name"; done
   logger d/pair/log
-  start reported d
+  start_session reported d
   soon 'up' 5 all_are is_settled d/plain d/pair d/pair/log
   for name in "${names[@]}"; do
     before=$(process "d/$name")
@@ -2434,7 +2434,7 @@ bared() {
   done
   svc -q d/.svscan
   soon 'svscan has ended' 10 is_gone "$svscan"
-  start reported2 d
+  start_session reported2 d
   soon 'the next one serves them' 10 all_are is_settled d/plain d/pair d/pair/log
   for name in "${names[@]}"; do is "$name: no second copy" 2 "$(count "d/$name/starts")"; done
 }
