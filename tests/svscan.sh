@@ -3186,10 +3186,59 @@ play_all() {
   done
 }
 
+# Two svscans share a session, as in a container. One of them is killed in the middle of a start, and nothing of that start is
+# left. The next one starts the service: a process that the other svscan has started since then runs in the folder that names it.
+# If such a process has a child in the service's folder, it is not taken up either: the service waits until it is gone.
+crowded() {
+  local name other session init want boot
+  sleeper d/web
+  sleeper d/near
+  sleeper e/other
+  service e/guest <<'END'
+echo $$ >>starts
+(cd ../../d/near && exec sleep 1000) &
+echo $! >child
+wait
+END
+  setsid bash -c '
+    "$0" svscan e 2>>reported.e & echo $! >svscans
+    "$0" svscan d 2>>reported.d & echo $! >>svscans
+    until [ -e next ]; do sleep 0.05; done
+    "$0" svscan d 2>>reported &
+    wait' "$program" </dev/null >/dev/null 2>&1 &
+  echo "$!" >>"$room/$scenario.groups"
+  soon 'up' 10 all_are is_settled d/web d/near e/other e/guest
+  kill -KILL "$(tail -n 1 svscans)"
+  soon 'svscan is dead' 3 not lives "$(tail -n 1 svscans)"
+  for name in web near; do
+    kill -KILL "$(process "d/$name")"
+    # PID TICK SESSION INIT WANT BOOT, as svscan writes it before a start
+    read -r _ _ session init want boot <"d/$name/supervise/place"
+    echo "0 $(awk '{ print int($1 * 100) }' /proc/uptime) $session $init $want $boot" >"d/$name/supervise/place"
+  done
+  for name in other guest; do
+    other=$(process "e/$name")
+    svc -t "e/$name"
+    soon "$name starts again" 5 is_another "e/$name" "$other"
+  done
+  soon 'both have settled' 5 all_are is_settled e/other e/guest
+  other=$(process e/guest)
+  : >next
+  soon 'the service starts' 5 is_settled d/web
+  soon 'next to a guest it waits' 5 holds "^svscan: near: process $other still runs\$" reported
+  so 'it has no process' is_down d/near
+  svc -d e/guest
+  kill "$(cat e/guest/child)"
+  soon 'then it starts' 5 is_settled d/near
+  is 'each once' '2 2' "$(count d/web/starts) $(count d/near/starts)"
+  is 'the other svscan keeps its service' 2 "$(count e/other/starts)"
+  is 'nothing else was reported' '' "$(cat reported.e reported.d; grep -v '^svscan: near: process [0-9]* still runs$' reported)"
+}
+
 scenarios=(life modes_kept delegated exits endings finishes bounded_finish timed_kill timed_kill_left ready ready_left bridged backs_off backs_off_left killed_finish no_run links stubborn killed_service killed_svscan killed_early unnamed starved unwritten new_boot other_user earlier_record elsewhere changes twice names silent
   connections no_supervise unheard rounds untaken itself refused last_words upgraded unread ordered first_process two_services child begins_anew shortage
   descriptors_reported batches unchanged resting full_disk full_put_down placeless held_locks held_pair many_bytes raised_limit
-  odd_environment unreaped bounded_end no_folder folder_away apart fifos fifos_left odd_settings led_away copied switched bared)
+  odd_environment unreaped bounded_end no_folder folder_away apart fifos fifos_left odd_settings led_away copied switched bared crowded)
 # These keep every processor busy, and have the machine for themselves.
 crowds=(killed_logger late_logger last_entries given_back many)
 shift

@@ -26,6 +26,7 @@ fn process(pid: u32, parent: u64, tick: u64, session: u64) -> Seen {
         is_here: false,
         is_known: false,
         is_late: false,
+        is_elsewhere: false,
         neighbour: 0,
     }
 }

@@ -1,3 +1,4 @@
 pub mod Spaces
 pub mod Generations
 pub mod Moments
+pub mod Own

@@ -1,8 +1,8 @@
 -- What is left over of a start that an earlier svscan intended, among the processes of the system.
-use Rattle.std.specs.Prelude.{◌≡◌, ◌<◌, ⊤, ◌==◌, ◌&&◌, ◌||◌, ℕ, zero, suc, Bool, true, false, not}
+use Rattle.std.specs.Prelude.{◌≡◌, ◌<◌, ◌≤◌, ⊤, ◌==◌, ◌&&◌, ◌||◌, ℕ, zero, suc, Bool, true, false, not}
 use Rattle.std.specs.Prelude.{if◌then◌else◌, List, find}
 use Rattle.std.specs.Prelude.{is_none, nat_le, Option, Some, None}
-use Rattle.std.specs.List.{list_any}
+use Rattle.std.specs.List.{Contains, list_any}
 use Rattle.std.specs.Option.{option_map_or}
 use Rattle.svc_record.specs.declared.leftover.Seen.{Seen}
 use Rattle.svc_record.specs.declared.leftover.Intent.{Intent}
@@ -76,13 +76,13 @@ is_neighbours generations intent all one =
     not (one.neighbour == 0) && not (has_others_there generations intent all one)
 
 -- A stray is the topmost of open processes. By its session it may be the one of the start, none of those processes is
--- here, and it belongs to no neighbour. A process of this svscan's own session that began after this svscan is no
--- stray.
+-- here, and it belongs to no neighbour and to no service elsewhere. A process of this svscan's own session that began
+-- after this svscan is no stray.
 abbrev pub is_stray : (generations : ℕ) → Intent → List Seen → Seen → Bool
 is_stray generations intent all one =
-    may_be_started intent one && (not one.is_late && (is_open generations intent all one
+    may_be_started intent one && (not one.is_late && (not one.is_elsewhere && (is_open generations intent all one
     && ((topmost generations intent all one).pid == one.pid && (not (is_above_here generations intent all one.pid)
-    && not (is_neighbours generations intent all one)))))
+    && not (is_neighbours generations intent all one))))))
 
 -- whether there is a root other than the process with this number
 abbrev pub has_other_root : (generations : ℕ) → Intent → List Seen → (pid : ℕ) → Bool
@@ -106,11 +106,12 @@ abbrev pub with_root : (is_sure : Bool) (root : Seen) → Leftover
 with_root true root = Process root.pid root.tick
 with_root false root = Unsure root.pid
 
--- A root is sure if by its session it may be the process of the start, and there is no other root and no stray.
+-- A root is sure if by its session it may be the process of the start, it belongs to no service elsewhere, and there is
+-- no other root and no stray.
 abbrev pub is_sure : (generations : ℕ) → Intent → List Seen → (root : Seen) → Bool
 is_sure generations intent all root =
-    may_be_started intent root && (not (has_other_root generations intent all root.pid)
-    && is_none (first_stray generations intent all))
+    may_be_started intent root && (not root.is_elsewhere && (not (has_other_root generations intent all root.pid)
+    && is_none (first_stray generations intent all)))
 
 -- What is left over, by the first root: nobody, if there is neither a root nor a stray.
 abbrev pub left_by : (generations : ℕ) → Intent → List Seen → (root : Option Seen) → Leftover
@@ -152,3 +153,26 @@ awaited other = other
 abbrev pub left_of_finish : Fate → Leftover
 left_of_finish (Lives process) = Unsure process.pid
 left_of_finish other = Nobody
+
+-- A process that may be taken up was seen. It is alive and began since the intent. It belongs to nobody else: neither it nor
+-- an ancestor is known, and it runs in no other folder that names it. By its session it may be the process of the start.
+pub record IsOwnProcess (generations : ℕ) (intent : Intent) (all : List Seen) (one : Seen) : Type 0 where
+  pub seen : Contains all one
+  pub alive : one.has_died ≡ false
+  pub since : intent.tick ≤ one.tick
+  pub unknown : is_known generations all one ≡ false
+  pub not_elsewhere : one.is_elsewhere ≡ false
+  pub session : may_be_started intent one ≡ true
+
+-- Law: what is taken up is such a process, and there is no stray.
+abbrev pub TakesUpItsOwn : (generations : ℕ) → Type 0
+TakesUpItsOwn generations =
+    (intent : Intent) (all : List Seen) (pid tick : ℕ) → find_leftover generations intent all ≡ Process pid tick
+    → (one : Seen) × IsOwnProcess generations intent all one × (one.pid ≡ pid) × (one.tick ≡ tick)
+    × (first_stray generations intent all ≡ None)
+
+-- Law: if nobody is left, there is neither a root nor a stray.
+abbrev pub NobodyIsLeft : (generations : ℕ) → Type 0
+NobodyIsLeft generations =
+    (intent : Intent) (all : List Seen) → find_leftover generations intent all ≡ Nobody
+    → (first_root generations intent all ≡ None) × (first_stray generations intent all ≡ None)

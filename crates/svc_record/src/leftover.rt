@@ -33,6 +33,8 @@ pub struct Seen {
     pub is_known: bool,
     /// Whether it has this svscan's own session and began after this svscan.
     pub is_late: bool,
+    /// Whether it runs in another folder, which names it as the process of its own service.
+    pub is_elsewhere: bool,
     /// The neighbour in whose folder it runs, by its number from 1, or 0 if there is none. A neighbour is another
     /// service of the same svscan with an unknown start.
     pub neighbour: u64,
@@ -227,13 +229,14 @@ fn is_neighbours(intent: &Intent, all: &[Seen], one: &Seen) -> bool
     one.neighbour != 0 && !has_others_there(intent, all, one)
 }
 
-/// Returns whether a process is the topmost of open ones and may be the one of the start, and none of them is here or
-/// is that of a neighbour's start.
+/// Returns whether a process is the topmost of open ones and may be the one of the start, and none of them is here. It
+/// is not that of a neighbour's start, and not that of a service elsewhere.
 fn is_stray(intent: &Intent, all: &[Seen], one: &Seen) -> bool
     ensures { result ≡ is_stray GENERATIONS intent.now all.now one.now }
 {
     may_be_started(intent, one)
         && !one.is_late
+        && !one.is_elsewhere
         && is_open(intent, all, one)
         && topmost(intent, all, one).pid == one.pid
         && !is_above_here(intent, all, one.pid)
@@ -267,6 +270,7 @@ fn is_sure(intent: &Intent, all: &[Seen], root: &Seen) -> bool
     ensures { result ≡ is_sure GENERATIONS intent.now all.now root.now }
 {
     may_be_started(intent, root)
+        && !root.is_elsewhere
         && !has_other_root(intent, all, root.pid)
         && first_stray(intent, all).is_none()
 }
@@ -287,7 +291,7 @@ fn without_root(stray: Option<&Seen>) -> Leftover
 /// or have its output. It is sure only if it is the only one, and no other process with a session of the start is
 /// unknown. It must also have such a session: that of the svscan that intended the start, or its own, if the service
 /// begins a session and the process leads one. A process that runs alone in the folder of a neighbour with an unknown
-/// start belongs to that neighbour.
+/// start belongs to that neighbour. One that runs in a folder which names it belongs to the service there.
 pub fn find_leftover(intent: &Intent, all: &[Seen]) -> Leftover
     ensures { result ≡ find_leftover GENERATIONS intent.now all.now }
 {

@@ -15,6 +15,7 @@
 mod counts;
 mod ending;
 mod exit;
+mod laws;
 mod leftover;
 mod moment;
 mod opening;
@@ -25,6 +26,7 @@ mod reading;
 pub use counts::{Counts, CountsText, counts_text};
 pub use ending::{Ending, ending_of, signal_name};
 pub use exit::{Exit, ExitText, exit_text};
+pub use laws::{nobody_is_left, takes_up_its_own};
 pub use leftover::{Intent, Leftover, Seen, find_any_here, find_leftover};
 pub use moment::{Moment, before_newline, moment_in, moment_text};
 pub use opening::{Left, Opening};

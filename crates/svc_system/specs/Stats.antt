@@ -62,6 +62,7 @@ seen_as pid stat = record {
   is_here = false;
   is_known = false;
   is_late = false;
+  is_elsewhere = false;
   neighbour = 0;
 }
 

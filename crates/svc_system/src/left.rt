@@ -10,7 +10,8 @@ ghost use Rattle.svc_system.specs.Left.{intent_in, is_starting_in, placed};
 use crate::fates::{ProcessReports, finish_fate, last_fate};
 use crate::folder::{FileId, ServiceFolder, is_one_file};
 use crate::neighbours::Near;
-use crate::processes::{OwnRun, StatSource, is_child_by, path_of_process, see_all, tick_of};
+use crate::processes::{OwnRun, StatSource, is_child_by, is_named_there};
+use crate::processes::{path_of_process, see_all, tick_of};
 use cmd_base::read_front;
 use std::alloc::Global;
 use std::{fs, io};
@@ -91,7 +92,7 @@ impl<'a> ProcessReports for SystemReports<'a> {
     }
 
     fn is_named_there(&self, process: &ProcessId) -> bool {
-        self.folder.is_named_elsewhere(process)
+        is_named_there(&self.folder.files, process)
     }
 }
 
@@ -234,16 +235,6 @@ impl ServiceFolder {
             return find_any_here(&all).numbered();
         }
         find_leftover(&intent, &all).numbered()
-    }
-
-    /// Returns whether the folder in which a process runs names it as the process of its service.
-    #[inline(never)]
-    fn is_named_elsewhere(&self, process: &ProcessId) -> bool {
-        let path = path_of_process(process.pid, "cwd/supervise/process");
-        match read_front::<HostRuntime, 128>(&self.files, path.as_str()) {
-            Ok(line) => read_process(line.as_slice()) == Some(*process),
-            Err(_) => false,
-        }
     }
 
     /// Returns what is left over of a `finish` with this process.

@@ -15,7 +15,7 @@ use std::io::Read;
 use std::os::unix::fs::MetadataExt;
 use std::{fs, io};
 use sup_core::read_number;
-use svc_record::{BootId, Intent, Place, ProcessId, Seen};
+use svc_record::{BootId, Intent, Place, ProcessId, Seen, read_process};
 use tai_status::Want;
 
 /// The error number for a process that is gone (errno(3)).
@@ -159,6 +159,14 @@ impl OwnRun {
         }
     }
 
+    /// Returns whether the folder in which this process of this boot runs names it as the process of its service.
+    fn names_there<R: Files<File = File>>(&self, files: &R, pid: u32, tick: u64) -> bool {
+        match self.boot {
+            Some(boot) => is_named_there(files, &ProcessId { pid, tick, boot }),
+            None => false,
+        }
+    }
+
     /// Returns the place of a service that has not been started in this run of the system.
     pub fn vacant(&self) -> Place {
         Place {
@@ -186,9 +194,19 @@ impl OwnRun {
     }
 }
 
+/// Returns whether the folder in which a process runs names it as the process of its service.
+#[inline(never)]
+pub(crate) fn is_named_there<R: Files<File = File>>(files: &R, process: &ProcessId) -> bool {
+    let path = path_of_process(process.pid, "cwd/supervise/process");
+    match read_front::<R, 128>(files, path.as_str()) {
+        Ok(line) => read_process(line.as_slice()) == Some(*process),
+        Err(_) => false,
+    }
+}
+
 /// Returns all processes of the system as they are seen now. For those that began since the intent, `is_here` says
 /// whether they are the service's. For the others that began since then, the neighbour in whose folder they run is
-/// looked up.
+/// looked up, and whether the folder in which they run names them.
 #[inline(never)]
 pub(crate) fn see_all<R: Files<File = File> + StatSource, F: Fn(u32) -> bool>(
     files: &R,
@@ -215,11 +233,10 @@ pub(crate) fn see_all<R: Files<File = File> + StatSource, F: Fn(u32) -> bool>(
             seen.is_late = seen.session == own.session && seen.tick > own.tick;
             if seen.tick >= intent.tick {
                 seen.is_here = is_here(pid);
-                seen.neighbour = if seen.is_here {
-                    0
-                } else {
-                    near.folder_of(files, pid)
-                };
+                if !seen.is_here {
+                    seen.neighbour = near.folder_of(files, pid);
+                    seen.is_elsewhere = own.names_there(files, pid, seen.tick);
+                }
             }
             all.push(seen)?;
         }

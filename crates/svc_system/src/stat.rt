@@ -105,6 +105,7 @@ impl Stat {
             is_here: false,
             is_known: false,
             is_late: false,
+            is_elsewhere: false,
             neighbour: 0,
         }
     }

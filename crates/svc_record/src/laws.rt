@@ -1,0 +1,14 @@
+//! What a reader can rely on of what is left over.
+ghost use Rattle.svc_record.specs.Leftover.{NobodyIsLeft, TakesUpItsOwn};
+ghost use Rattle.svc_record.specs.declared.leftover.TheConstants.{GENERATIONS};
+
+/// States that a process which is taken up was seen alive, began since the intent, and belongs to nobody else. By its
+/// session it may be the process of the start, and no other process might be.
+pub fn takes_up_its_own()
+    ensures { TakesUpItsOwn GENERATIONS }
+{}
+
+/// States that nobody is left only if no process was seen that may be the one of the start.
+pub fn nobody_is_left()
+    ensures { NobodyIsLeft GENERATIONS }
+{}
