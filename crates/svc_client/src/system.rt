@@ -5,7 +5,7 @@ ghost use Rattle.svc_client.specs.Paths.{FitsAddress};
 ghost use Rattle.svc_client.specs.Connecting.{unreached_by};
 
 use crate::notice::{Notice, NoticeText};
-use crate::process::{age_at, living_tick};
+use crate::process::age_at;
 use crate::services::{Services, Unreached};
 use arrayvec::ArrayString;
 use cmd_base::{StatusFront, path_by_descriptor, push_number, read_front};
@@ -19,20 +19,17 @@ use std::os::unix::fs::MetadataExt;
 use std::time::Clock;
 use std::{fs, io};
 use svc_places::service_path;
+use svc_record::{STAT_BYTES, living_tick, tick_at};
 use tai_status::Cause;
 
 /// The longest path of a socket, in bytes: its address has one more byte, for the zero at the end.
 const SOCKET_BYTES: usize = 107;
 
-/// The number of bytes read of a process's line: enough to reach the tick at which it began, whatever the program's
-/// name.
-const STAT_BYTES: usize = 512;
-
 /// The services of this system. It says nothing to contracts, and needs no memory.
 #[derive(Drop)]
 pub struct SystemServices<R: Files<File = File> + Net + Env + Clock + Drop> {
     runtime: R,
-    /// The first reading of the clock for an age, in ticks.
+    /// The tick of the first reading of the clock for an age.
     first: Option<u64>,
 }
 
@@ -47,18 +44,12 @@ impl<R: Files<File = File> + Net + Env + Clock + Drop> SystemServices<R> {
 
     /// Returns how many ticks, at least, the process has lived whose line is at a path.
     fn age_of(&mut self, path: &str) -> Option<u128> {
-        let now = ticks(&self.runtime)?;
+        let now = tick_at(self.runtime.monotonic().ok()?);
         let first = *self.first.get_or_insert(now);
         let own = living_tick_at(&self.runtime, "/proc/self/stat")?;
         let began = living_tick_at(&self.runtime, path)?;
         Some(age_at(began, own, first, now))
     }
-}
-
-/// Returns the time of the clock that nobody sets, in hundredths of a second, which are the kernel's ticks.
-fn ticks<R: Clock>(runtime: &R) -> Option<u64> {
-    let now = runtime.monotonic().ok()?;
-    u64::try_from(now.as_millis() / 10).ok()
 }
 
 /// Returns the tick at which the process began whose line is at a path, if it lives.

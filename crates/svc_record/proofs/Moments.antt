@@ -1,7 +1,6 @@
 -- Where the number and the time are in a line.
-use Rattle.std.proofs.Common.{◌≡◌, ◌≤◌, ℕ, ◌+◌, ◌-◌, List, [], ◌∷◌, ◌++◌, length, take, drop, decimal, codes}
-use Rattle.std.proofs.Common.{refl, sym, ap, ◌∙◌, arith, append_assoc, length-append}
-use Rattle.std.proofs.Math.Seq.{drop-append_seam}
+use Rattle.std.proofs.Common.{◌≡◌, ℕ, ◌+◌, ◌-◌, List, [], ◌∷◌, ◌++◌, length, decimal, codes}
+use Rattle.std.proofs.Common.{refl, ap, ◌∙◌, arith, append_assoc}
 use Rattle.tai_status.specs.Label.{Tai64n, label_text, packed}
 use Rattle.hex.specs.Hex.{lower_digits}
 use Rattle.hex.proofs.HexLemmas.{length-encode_with}
@@ -18,13 +17,6 @@ label_length label =
     let digits = length-encode_with lower_digits (packed label) in
     let twelve : length (packed label) ≡ 12 = refl in
     omega (arith, digits, twelve)
-
--- the rest of a text after all but its last bytes
-pub rest_at : (front last text : List ℕ) → text ≡ front ++ last → drop (length text - length last) text ≡ last
-rest_at front last text is =
-    let all = ap length is ∙ length-append front last in
-    let at : length text - length last ≡ length front = omega (arith, all) in
-    ap (λ (n : ℕ). drop n text) at ∙ ap (λ (l : List ℕ). drop (length front) l) is ∙ drop-append_seam front last
 
 -- The words that say how a process ended begin with a space.
 record Spaced (words : List ℕ) : Type 0 where

@@ -5,3 +5,5 @@ pub mod Leftover
 pub mod Exits
 pub mod Counts
 pub mod Moments
+pub mod Stats
+pub mod Ticks

@@ -10,6 +10,9 @@
 //! place and the process are recorded. The next svscan reads them and finds what became of the process (`find`,
 //! `find_leftover`). With the status record it decides how the service begins (`Left::opening`): by its row, as it is
 //! wanted, or as it was left. A process that is still alive is adopted, with the machine in the record.
+//!
+//! The kernel's line about a process (`/proc/PID/stat`) is read here, too (`Stat`, `living_tick`), and so are the ticks of
+//! its clock (`tick_at`).
 #![tactic(auto)]
 
 mod counts;
@@ -22,6 +25,8 @@ mod opening;
 mod place;
 mod process;
 mod reading;
+mod stat;
+mod ticks;
 
 pub use counts::{Counts, CountsText, counts_text};
 pub use ending::{Ending, ending_of, signal_name};
@@ -33,3 +38,5 @@ pub use opening::{Left, Opening};
 pub use place::{PLACE_BYTES, Place, PlaceLine, first_line, place_line, read_place};
 pub use process::{BootId, Fate, ProcessId, ProcessLine, find, process_line, read_process};
 pub use reading::{read_ending, read_exit};
+pub use stat::{STAT_BYTES, Stat, living_tick};
+pub use ticks::{TICKS, tick_at};

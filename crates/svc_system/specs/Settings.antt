@@ -2,7 +2,7 @@
 use Rattle.std.specs.Prelude.{◌≡◌, ◌⊎◌, ◌<◌, ◌≤◌, ◌+◌, ◌*◌, ◌^◌, ◌==◌, ◌&&◌, ℕ, Bool, not, List, ◌++◌, codes}
 use Rattle.std.specs.Prelude.{decimal, nat_le}
 use Rattle.svc_system.specs.declared.settings.TheConstants.{FINISH_SECONDS, LONGEST}
-use Rattle.svc_world.specs.declared.backoff.TheConstants.{TICKS}
+use Rattle.svc_record.specs.declared.ticks.TheConstants.{TICKS}
 
 -- The text of a file is this number of seconds, with or without a newline.
 abbrev pub IsSeconds : (seconds : ℕ) → List ℕ → Type 0

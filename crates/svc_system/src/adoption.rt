@@ -5,7 +5,6 @@ ghost use Rattle.svc_system.specs.Adoption.{is_unchanged};
 
 use crate::listening::{Listened, Listening};
 use crate::processes::{AdoptedProcess, StatSource, folder_of, has_ended, lives_by};
-use crate::stat::Stat;
 use cmd_base::SystemClock;
 use mio::{Events, Poll, Registry, Token, Waker};
 use std::alloc::{AllocError, Global};
@@ -16,6 +15,7 @@ use std::thread::{Builder, Threads};
 use std::time::{Clock, Duration};
 use std::{io, thread};
 use svc_house::{News, Notifier};
+use svc_record::Stat;
 use tai_status::TimeSource;
 
 /// The seconds between two looks at the adopted processes.

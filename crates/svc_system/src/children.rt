@@ -18,8 +18,8 @@ use crate::settings::{
     BACKOFF, FINISH_TIME, KILL_TIME, NO_BACKOFF, NO_FINISH_TIME, NO_KILL_TIME, backoff_seconds,
     finish_seconds, is_late, kill_seconds, seconds_in,
 };
-use crate::stat::present_tick;
 use crate::surroundings::Surroundings;
+use crate::ticks::present_tick;
 use cmd_base::SystemClock;
 use std::alloc::{AllocError, Global};
 use std::fs::File;

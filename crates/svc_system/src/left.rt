@@ -10,8 +10,9 @@ ghost use Rattle.svc_system.specs.Left.{intent_in, is_starting_in, placed};
 use crate::fates::{ProcessReports, finish_fate, last_fate};
 use crate::folder::{FileId, ServiceFolder, is_one_file};
 use crate::neighbours::Near;
-use crate::processes::{OwnRun, StatSource, is_child_by, is_named_there};
-use crate::processes::{path_of_process, see_all, tick_of};
+use crate::processes::{
+    OwnRun, StatSource, is_child_by, is_named_there, path_of_process, see_all, tick_of,
+};
 use cmd_base::read_front;
 use std::alloc::Global;
 use std::{fs, io};

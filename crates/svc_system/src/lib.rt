@@ -30,8 +30,8 @@ mod settings;
 mod shell;
 mod shell_process;
 mod sockets;
-mod stat;
 mod surroundings;
+mod ticks;
 
 pub use adoption::AdoptionWatch;
 pub use child_reaper::ChildReaper;

@@ -2,11 +2,11 @@
 ghost use Rattle.std.specs.Prelude.{◌≡◌, ◌↔◌, ◌<◌, ◌≤◌, length, take, option_and_then, false, true};
 ghost use Rattle.std.specs.Prelude.{IfErr, IfOk, IfSome, IsTrue};
 ghost use Rattle.svc_system.specs.Commands.{path_of_process};
-ghost use Rattle.svc_system.specs.Stats.{IsChildOf, LivesSince, living_tick};
+ghost use Rattle.svc_record.specs.Stats.{living_tick};
+ghost use Rattle.svc_system.specs.Stats.{IsChildOf, LivesSince};
 
 use crate::folder::ShortPath;
 use crate::neighbours::Near;
-use crate::stat::Stat;
 use arrayvec::ArrayString;
 use cmd_base::{push_number, read_front};
 use std::alloc::Global;
@@ -15,15 +15,11 @@ use std::io::Read;
 use std::os::unix::fs::MetadataExt;
 use std::{fs, io};
 use sup_core::read_number;
-use svc_record::{BootId, Intent, Place, ProcessId, Seen, read_process};
+use svc_record::{BootId, Intent, Place, ProcessId, STAT_BYTES, Seen, Stat, read_process};
 use tai_status::Want;
 
 /// The error number for a process that is gone (errno(3)).
 const ESRCH: i32 = 3;
-
-/// The number of bytes read of a process's line: enough to reach the tick at which it began, whatever the program's
-/// name.
-const STAT_BYTES: usize = 512;
 
 /// Returns the path of a name in the kernel's folder of a process.
 pub(crate) fn path_of_process(pid: u32, name: &str) -> ShortPath
@@ -41,7 +37,7 @@ pub(crate) fn path_of_process(pid: u32, name: &str) -> ShortPath
 /// Reads the kernel's lines about processes. Contracts see what is reported for a process number, if that is known.
 pub(crate) trait StatSource {
     ghost use Rattle.std.specs.Prelude.{◌≡◌, ℕ, Option, None, IfOk, IfSome};
-    ghost use Rattle.svc_system.specs.declared.stat.Stat.{Stat};
+    ghost use Rattle.svc_record.specs.declared.stat.Stat.{Stat};
 
     // what is reported for a process number, if there is such a process
     ghost stat_at: { Self → ℕ → Option (Option Stat) } = { λ _ _. None };
@@ -186,10 +182,10 @@ impl OwnRun {
         let init = known_stat(files, INIT);
         OwnRun {
             boot: boot_id(files),
-            init: init.map_or(0, |stat| stat.tick()),
-            session: own.map_or(0, |stat| stat.session()),
+            init: init.map_or(0, |stat| stat.tick),
+            session: own.map_or(0, |stat| stat.session),
             pid,
-            tick: own.map_or(0, |stat| stat.tick()),
+            tick: own.map_or(0, |stat| stat.tick),
         }
     }
 }

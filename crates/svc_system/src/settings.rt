@@ -5,8 +5,7 @@ ghost use Rattle.svc_system.specs.declared.settings.TheConstants.{FINISH_SECONDS
 ghost use Rattle.svc_system.specs.Settings.{IsBackoff, IsFinishTime, IsSeconds, is_late};
 
 use sup_core::read_number;
-use svc_record::before_newline;
-use svc_world::TICKS;
+use svc_record::{TICKS, before_newline};
 
 /// The file of a service that says how long its `finish` may run.
 pub(crate) const FINISH_TIME: &str = "timeout-finish";

@@ -4,7 +4,8 @@ use Rattle.std.specs.Prelude.{List, [], ◌∷◌, ◌++◌, drop, length, min}
 use Rattle.tai_status.specs.Label.{Tai64n, greatest}
 use Rattle.sup_core.specs.declared.asks.Sig.{Sig}
 use Rattle.sup_core.specs.declared.asks.Sig.TheVariants as sig
-use Rattle.svc_world.specs.declared.backoff.TheConstants.{TICKS}
+use Rattle.svc_record.specs.declared.ticks.TheConstants.{TICKS}
+use Rattle.svc_world.specs.declared.backoff.TheConstants.{MINUTE}
 
 -- A signal asks a process to end, unless it stops it or lets it continue.
 abbrev pub asks_end : Sig → Bool
@@ -17,9 +18,9 @@ abbrev pub last_four : List ℕ → List ℕ
 last_four ticks = drop (length ticks - 4) ticks
 
 -- whether an end at this tick is the fifth within a minute, after ends at these ticks: the first of these four came at
--- most 60 seconds before
+-- most `MINUTE` seconds before
 abbrev pub is_fifth : (tick : ℕ) → List ℕ → Bool
-is_fifth tick (first ∷ second ∷ third ∷ fourth ∷ []) = nat_le tick (first + 60 * TICKS)
+is_fifth tick (first ∷ second ∷ third ∷ fourth ∷ []) = nat_le tick (first + MINUTE * TICKS)
 is_fifth tick other = false
 
 -- the tick that comes this many seconds after another one, or the last tick

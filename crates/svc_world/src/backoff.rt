@@ -5,10 +5,8 @@ ghost use Rattle.svc_world.specs.Backoff.{asks_end, seconds_after, tick_after};
 use arrayvec::ArrayVec;
 use std::marker::Model;
 use sup_core::Sig;
+use svc_record::TICKS;
 use tai_status::Label;
-
-/// The ticks of the kernel's clock in a second, as it reports times (sysconf(3), `_SC_CLK_TCK`).
-pub const TICKS: u128 = 100;
 
 /// The seconds within which the ends come.
 const MINUTE: u128 = 60;

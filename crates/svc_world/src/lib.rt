@@ -24,7 +24,6 @@ mod starts;
 mod takeover;
 mod world;
 
-pub use backoff::TICKS;
 pub use begin::{Death, LastChild};
 pub use child_system::ChildSystem;
 pub use paper::{Owed, Paper, Remark};

@@ -1,24 +1,26 @@
 //! What the kernel's line about a process reports, and what follows from that.
-ghost use Rattle.std.specs.Prelude.{◌≡◌, option_copied, slice_get};
+ghost use Rattle.std.specs.Prelude.{◌≡◌, ◌<◌, ◌^◌, ℕ, Some, IfSome, option_copied, slice_get};
 ghost use Rattle.sup_core.specs.Reading.{fields};
-ghost use Rattle.svc_system.specs.Stats.{behind_name, is_dead, present_tick};
+ghost use Rattle.svc_record.specs.Stats.{SaysLiving, behind_name, is_dead};
 
-use std::time::Duration;
+use crate::leftover::Seen;
 use sup_core::{read_number, split_field};
-use svc_record::Seen;
-use svc_world::TICKS;
+
+/// The number of bytes that are read of a process's line: enough to reach the tick at which it began, whatever the
+/// program's name.
+pub const STAT_BYTES: usize = 512;
 
 /// What the line about a process reports (proc(5), `stat`).
 #[derive(Clone, Copy, Debug, PartialEq, Eq)]
-pub(crate) struct Stat {
+pub struct Stat {
     /// Whether the process died and its parent has not waited for it.
-    has_died: bool,
+    pub has_died: bool,
     /// The number of its parent.
-    parent: u64,
+    pub parent: u64,
     /// Its session.
-    session: u64,
+    pub session: u64,
     /// The tick of the kernel's clock at which it began.
-    tick: u64,
+    pub tick: u64,
 }
 
 /// Returns what comes after the last parenthesis of a process's line, which ends the program's name.
@@ -53,12 +55,24 @@ fn is_dead(state: &[u8]) -> bool
     }
 }
 
+/// Returns the tick at which the process of a line began, if it lives (proc(5), `stat`).
+pub fn living_tick(line: &[u8]) -> Option<u64>
+    ensures reported { IfSome result (λ tick. SaysLiving line.now tick) }
+    ensures only { (tick : ℕ) → tick < 2 ^ 64 → SaysLiving line.now tick → result ≡ Some tick }
+{
+    let behind = behind_name(line);
+    if is_dead(field_at(behind, 1)?) {
+        return None;
+    }
+    read_number(field_at(behind, 20)?)
+}
+
 impl Stat {
     ghost use Rattle.std.specs.Prelude.{◌≡◌, ◌↔◌, IsTrue, IfSome, Some};
-    ghost use Rattle.svc_system.specs.Stats.{FitsStat, SaysStat, living_tick, seen_as};
+    ghost use Rattle.svc_record.specs.Stats.{FitsStat, SaysStat, living_tick, seen_as};
 
     /// Reads what the line about a process reports. Returns None if it is not such a line.
-    pub(crate) fn read(line: &[u8]) -> Option<Stat>
+    pub fn read(line: &[u8]) -> Option<Stat>
         ensures reported { IfSome result (λ stat. SaysStat line.now stat) }
         ensures only { (stat : Stat) → FitsStat stat → SaysStat line.now stat → result ≡ Some stat }
     {
@@ -72,28 +86,28 @@ impl Stat {
     }
 
     /// Returns whether this number is that of the process's parent.
-    pub(crate) fn is_child_of(&self, parent: u32) -> bool
+    pub fn is_child_of(&self, parent: u32) -> bool
         ensures { IsTrue result ↔ (self.now.parent ≡ parent) }
     {
         self.parent == u64::from(parent)
     }
 
     /// Returns the tick at which the process began, if it lives.
-    pub(crate) fn living_tick(&self) -> Option<u64>
+    pub fn living_tick(&self) -> Option<u64>
         ensures { result ≡ living_tick self.now }
     {
         if self.has_died { None } else { Some(self.tick) }
     }
 
     /// Returns whether the process lives, and is the one that began at this tick.
-    pub(crate) fn lives_since(&self, tick: u64) -> bool
+    pub fn lives_since(&self, tick: u64) -> bool
         ensures { IsTrue result ↔ (living_tick self.now ≡ Some tick) }
     {
         self.living_tick() == Some(tick)
     }
 
     /// Returns the process with this number, as a look at all processes sees it.
-    pub(crate) fn seen(&self, pid: u32) -> Seen
+    pub fn seen(&self, pid: u32) -> Seen
         ensures { result ≡ seen_as pid self.now }
     {
         Seen {
@@ -108,35 +122,5 @@ impl Stat {
             is_elsewhere: false,
             neighbour: 0,
         }
-    }
-
-    /// Returns its session.
-    pub(crate) fn session(&self) -> u64
-        ensures { result ≡ self.now.session }
-    {
-        self.session
-    }
-
-    /// Returns the tick at which it began.
-    pub(crate) fn tick(&self) -> u64
-        ensures { result ≡ self.now.tick }
-    {
-        self.tick
-    }
-}
-
-/// The nanoseconds in a tick of the kernel's clock.
-const TICK_NANOS: u128 = 1_000_000_000 / TICKS;
-
-/// Returns the tick at this time of the running clock: no process that begins now has an earlier one. Returns the first
-/// tick if the time is not known.
-pub(crate) fn present_tick(now: Option<Duration>) -> u64
-    ensures { result ≡ present_tick now }
-{
-    match now {
-        Some(now) => u64::try_from(now.as_nanos() / TICK_NANOS)
-            .unwrap_or(u64::MAX)
-            .max(1),
-        None => 1,
     }
 }

@@ -1,6 +1,6 @@
 use Rattle.std.proofs.Common.{◌≡◌, ◌+◌, ◌≤◌, not, ◌==◌, length, take}
 use Rattle.std.specs.List.{suffix_len}
-use Rattle.svc_system.proofs.stat.behind_name.Given as goal
+use Rattle.svc_record.proofs.stat.behind_name.Given as goal
 
 -- what was passed has no parenthesis
 abbrev pub invariant-loop-from : goal.invariant-loop-from

@@ -1,7 +1,7 @@
 use Rattle.std.proofs.Common.{◌≡◌, ◌-◌}
 use Rattle.std.specs.Prelude.{slice_get}
 use Rattle.sup_core.specs.Reading.{fields}
-use Rattle.svc_client.proofs.process.field_at.Given as goal
+use Rattle.svc_record.proofs.stat.field_at.Given as goal
 
 -- what is left still has the field
 abbrev pub invariant-loop-passed : goal.invariant-loop-passed
