@@ -5,7 +5,7 @@
 # are. The wanted values are those of the daemontools pages and of docs/FORMATS.md. It needs python3, for clients that
 # send what svc never does.
 # gate: 100 seconds, needs python3
-scripts=$(realpath "$(dirname "$0")/../scripts") contrib=$(realpath "$(dirname "$0")/../contrib")
+folder=$(realpath "$(dirname "$0")") scripts=$(realpath "$(dirname "$0")/../scripts") contrib=$(realpath "$(dirname "$0")/../contrib")
 . "$(dirname "$0")/checks.sh" "$1"
 export LC_ALL=C
 under=()
@@ -3186,6 +3186,43 @@ play_all() {
   done
 }
 
+# The wall clock is set back by an hour, and then on by two, while services settle, rest and run: svscan goes on, and hears svc.
+stepped() {
+  command -v cc >/dev/null || { echo 'svscan stepped: skipped, cc is missing'; return; }
+  cc -O1 -shared -fPIC -o clock.so "$folder/clock.c" || return
+  local step before
+  sleeper d/web
+  sleeper d/rests
+  service d/flaps <<'END'
+echo $$ >>starts
+END
+  # No start can be recorded there, so each one fails.
+  mkdir -p d/rests/supervise/place
+  echo 0 >step
+  under=(env LD_PRELOAD="$PWD/clock.so" CLOCK_STEP="$PWD/step")
+  start reported d
+  under=()
+  soon 'up' 5 is_settled d/web
+  soon 'one ends again and again' 5 has_lines 2 d/flaps/starts
+  soon 'one rests' 5 ends ', resting' d/rests
+  for step in -3600 3600; do
+    before=$(count d/flaps/starts)
+    echo "$step" >step
+    soon "$step: it starts again and again" 5 has_lines $((before + 3)) d/flaps/starts
+    svc -d d/flaps
+    soon "$step: d" 3 is_put_down d/flaps
+    svc -u d/flaps
+    before=$(process d/web)
+    svc -t d/web
+    soon "$step: t" 5 is_another d/web "$before"
+    soon "$step: it settles" 5 is_settled d/web
+  done
+  rmdir d/rests/supervise/place
+  echo -3600 >step
+  soon 'what rested starts' 5 is_settled d/rests
+  is 'once' 1 "$(count d/rests/starts)"
+}
+
 # Two svscans share a session, as in a container. One of them is killed in the middle of a start, and nothing of that start is
 # left. The next one starts the service: a process that the other svscan has started since then runs in the folder that names it.
 # If such a process has a child in the service's folder, it is not taken up either: the service waits until it is gone.
@@ -3238,7 +3275,7 @@ END
 scenarios=(life modes_kept delegated exits endings finishes bounded_finish timed_kill timed_kill_left ready ready_left bridged backs_off backs_off_left killed_finish no_run links stubborn killed_service killed_svscan killed_early unnamed starved unwritten new_boot other_user earlier_record elsewhere changes twice names silent
   connections no_supervise unheard rounds untaken itself refused last_words upgraded unread ordered first_process two_services child begins_anew shortage
   descriptors_reported batches unchanged resting full_disk full_put_down placeless held_locks held_pair many_bytes raised_limit
-  odd_environment unreaped bounded_end no_folder folder_away apart fifos fifos_left odd_settings led_away copied switched bared crowded)
+  odd_environment unreaped bounded_end no_folder folder_away apart fifos fifos_left odd_settings led_away copied switched bared crowded stepped)
 # These keep every processor busy, and have the machine for themselves.
 crowds=(killed_logger late_logger last_entries given_back many)
 shift

@@ -2,6 +2,7 @@ pub mod Access
 pub mod Commands
 pub mod Shell
 pub mod Stats
+pub mod Times
 pub mod Fates
 pub mod Left
 pub mod Settings

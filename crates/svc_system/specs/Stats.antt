@@ -1,8 +1,6 @@
--- What follows from what was found for the number of a process, and the present tick.
+-- What follows from what was found for the number of a process.
 use Rattle.std.specs.Prelude.{◌≡◌, ◌↔◌, ℕ, Bool, IsTrue, Option, Some, None, option_and_then}
-use Rattle.std.specs.declared.time.Duration.{Duration}
 use Rattle.svc_record.specs.Stats.{living_tick}
-use Rattle.svc_record.specs.Ticks.{tick_at}
 use Rattle.svc_record.specs.declared.stat.Stat.{Stat}
 
 -- It is found exactly if a process lives that began at this tick.
@@ -13,8 +11,3 @@ LivesSince tick reported found = IsTrue found ↔ (option_and_then living_tick r
 abbrev pub IsChildOf : (parent : ℕ) → Option Stat → Type 0
 IsChildOf parent None = ⊥
 IsChildOf parent (Some stat) = stat.parent ≡ parent
-
--- the present tick, or the first one if the time is not known
-abbrev pub present_tick : (now : Option Duration) → ℕ
-present_tick None = 1
-present_tick (Some now) = tick_at now

@@ -19,7 +19,7 @@ use crate::settings::{
     finish_seconds, is_late, kill_seconds, seconds_in,
 };
 use crate::surroundings::Surroundings;
-use crate::ticks::present_tick;
+use crate::times::{Reading, present_tick, steady};
 use cmd_base::SystemClock;
 use std::alloc::{AllocError, Global};
 use std::fs::File;
@@ -82,6 +82,8 @@ where
     shared: Arc<Surroundings<R>, Global>,
     notifier: Arc<Notifier, Global>,
     clock: SystemClock<R>,
+    // What `now` gave last.
+    read: Option<Reading>,
     slot: ChildSlot,
     death: DeathSource,
     ready: ReadySource,
@@ -121,6 +123,7 @@ where
             shared,
             notifier,
             clock: SystemClock::new(runtime),
+            read: None,
             slot,
             death: DeathSource::None,
             ready: ReadySource::None,
@@ -503,6 +506,13 @@ where
     }
 
     fn now(&mut self) -> Label {
-        self.clock.now()
+        let label = self.clock.now();
+        let time = self.runtime.monotonic().ok();
+        self.read = time.map(|time| Reading { label, time });
+        label
+    }
+
+    fn steady_now(&mut self) -> Label {
+        steady(self.clock.now(), self.read, self.runtime.monotonic().ok())
     }
 }

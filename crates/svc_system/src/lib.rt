@@ -31,7 +31,7 @@ mod shell;
 mod shell_process;
 mod sockets;
 mod surroundings;
-mod ticks;
+mod times;
 
 pub use adoption::AdoptionWatch;
 pub use child_reaper::ChildReaper;

@@ -27,7 +27,7 @@ pub(crate) fn tick_after(seconds: u64, tick: u64) -> u64
 }
 
 /// Returns the label of a time this many seconds later.
-pub(crate) fn seconds_after(seconds: u64, label: Label) -> Label
+pub fn seconds_after(seconds: u64, label: Label) -> Label
     ensures { result ≡ seconds_after seconds label }
 {
     Label::new(label.sec.saturating_add(seconds), label.nano).unwrap_or(Label::MAX)

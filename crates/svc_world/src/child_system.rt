@@ -101,4 +101,9 @@ pub trait ChildSystem {
     /// Returns the time.
     fn now(&mut self) -> Label
         ensures calls { MadeWhileKept calls (ReadClock result) self.old self.new };
+
+    /// Returns the time, or the last one that `now` gave and the seconds that have passed since then, if that is later.
+    /// The end of a rest is therefore reached although the clock is set back.
+    fn steady_now(&mut self) -> Label
+        ensures calls { MadeWhileKept calls (ReadClock result) self.old self.new };
 }

@@ -24,6 +24,7 @@ mod starts;
 mod takeover;
 mod world;
 
+pub use backoff::seconds_after;
 pub use begin::{Death, LastChild};
 pub use child_system::ChildSystem;
 pub use paper::{Owed, Paper, Remark};

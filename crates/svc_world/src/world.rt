@@ -270,11 +270,11 @@ impl<C: ChildSystem + Drop> World for ChildWorld<C> {
         }
     }
 
-    /// Returns the time.
+    /// Returns the time, for a service that settles or rests.
     fn clock(&mut self) -> Label
         ensures { ReadsClock result self.old self.new }
     {
-        self.system.now()
+        self.system.steady_now()
     }
 
     /// Writes each owed paper again, with its present content. Says so if something has become owed, or if nothing is
