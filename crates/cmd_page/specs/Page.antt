@@ -4,12 +4,11 @@ use Rattle.std.specs.Prelude.{decimal, flat_map, Option, Some, None}
 use Rattle.tai_status.specs.Label.{Tai64n}
 use Rattle.tai_status.specs.Record.{Status}
 use Rattle.tai_status.specs.Loading.{status_in}
-use Rattle.tai_status.specs.declared.record.Want.{Want}
-use Rattle.tai_status.specs.declared.record.Want.TheVariants as want
 use Rattle.sup_trace.specs.Content.{Content}
 use Rattle.svc_record.specs.declared.ending.Ending.{Ending}
 use Rattle.svc_record.specs.declared.ending.Ending.TheVariants as ending
 use Rattle.svc_record.specs.declared.exit.Exit.{Exit}
+use Rattle.cmd_report.specs.Json.{want_name}
 use Rattle.cmd_svc.specs.Line.{is_running, wants_up}
 use Rattle.svc_client.specs.declared.services.Unreached.{Unreached}
 use Rattle.svc_client.specs.declared.services.Unreached.TheVariants as unreached
@@ -80,14 +79,9 @@ abbrev pub look_class : ServiceLook → List ℕ
 look_class (look.Standing loaded normally_up now (BackingOff until)) = codes "warn"
 look_class look = state_class (status_of look)
 
-abbrev pub want_word : Want → List ℕ
-want_word want.Up = codes "up"
-want_word want.Down = codes "down"
-want_word want.Once = codes "once"
-
 abbrev pub wanted_text : Option Status → List ℕ
 wanted_text None = []
-wanted_text (Some status) = want_word status.want
+wanted_text (Some status) = want_name status.want
 
 abbrev pub process_text : Option Status → List ℕ
 process_text None = []

@@ -3,20 +3,20 @@ ghost use Rattle.std.specs.Prelude.{◌≡◌, ◌++◌, decimal, OnOk};
 ghost use Rattle.std.specs.Option.{option_copied};
 ghost use Rattle.cmd_page.specs.Page.{ending_text, last_text, leads, look_class, picture_in, process_text};
 ghost use Rattle.cmd_page.specs.Page.{process_word, restarts_in, side_word};
-ghost use Rattle.cmd_page.specs.Page.{span_text, state_class, state_word, status_of, unreached_word, want_word};
+ghost use Rattle.cmd_page.specs.Page.{span_text, state_class, state_word, status_of, unreached_word};
 ghost use Rattle.cmd_page.specs.Page.{wanted_text};
-ghost use Rattle.cmd_svc.specs.Line.{wants_up};
 ghost use Rattle.cmd_why.specs.Sentences.{signal_text};
 
 use crate::picture::{push_picture, push_restarts};
 use crate::text::{push_number, push_text};
-use cmd_svc::{Course, ServiceLook, is_running};
+use cmd_report::want_name;
+use cmd_svc::{Course, ServiceLook, is_running, wants_up};
 use cmd_why::leads_to;
 use std::alloc::{AllocError, Allocator};
 use sup_trace::TraceText;
 use svc_client::Unreached;
 use svc_record::{Ending, Exit, signal_name};
-use tai_status::{Label, View, Want};
+use tai_status::{Label, View};
 
 /// Returns the status that a look found.
 pub(crate) fn status_of(look: &ServiceLook) -> Option<View>
@@ -76,16 +76,6 @@ pub(crate) fn state_word(look: &ServiceLook) -> &'static str
     }
 }
 
-/// Returns whether a process is wanted all the time.
-fn wants_up(want: Want) -> bool
-    ensures { result ≡ wants_up want }
-{
-    match want {
-        Want::Up => true,
-        Want::Down | Want::Once => false,
-    }
-}
-
 /// Returns the class of a state, from its status.
 fn state_class(status: &Option<View>) -> &'static str
     ensures { result.now ≡ state_class status.now }
@@ -111,23 +101,12 @@ pub(crate) fn look_class(look: &ServiceLook) -> &'static str
     }
 }
 
-/// Returns what is wanted, in a word.
-fn want_word(want: Want) -> &'static str
-    ensures { result.now ≡ want_word want }
-{
-    match want {
-        Want::Up => "up",
-        Want::Down => "down",
-        Want::Once => "once",
-    }
-}
-
 /// Returns what is wanted, if there is a status.
 pub(crate) fn wanted_text(status: &Option<View>) -> &'static str
     ensures { result.now ≡ wanted_text status.now }
 {
     match status {
-        Some(status) => want_word(status.want),
+        Some(status) => want_name(status.want),
         None => "",
     }
 }

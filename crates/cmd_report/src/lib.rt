@@ -20,6 +20,6 @@ pub use found::FoundService;
 pub use laws::{labels_read, same_words};
 pub use lines::run_json;
 pub use metrics::metrics_text;
-pub use objects::json_line;
+pub use objects::{json_line, want_name};
 pub use report::run_metrics;
 pub use samples::{Sample, value_in};

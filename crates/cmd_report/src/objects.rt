@@ -306,7 +306,7 @@ fn add_asked<A: Allocator>(
 }
 
 /// Returns what is wanted, in a word.
-fn want_name(want: Want) -> &'static str
+pub fn want_name(want: Want) -> &'static str
     ensures { result.now ≡ want_name want }
 {
     match want {

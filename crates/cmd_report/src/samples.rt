@@ -1,15 +1,14 @@
 //! The samples of metrics, and the value that a service has of each.
 ghost use Rattle.std.specs.Prelude.{◌≡◌};
 ghost use Rattle.tai_status.specs.Record.{flag_byte};
-ghost use Rattle.cmd_svc.specs.Line.{wants_up};
 ghost use Rattle.cmd_report.specs.Metrics.{deaths_in, is_supervised, look_value, metric_help, metric_name, metric_type, phase_value};
 ghost use Rattle.cmd_report.specs.Metrics.{signal_of, signal_of_last, standing_value, starts_in, status_of};
 ghost use Rattle.cmd_report.specs.Metrics.{backoff_in, is_finishing, ready_in, status_of_last, unix_second, value_in};
 
 use crate::found::FoundService;
-use cmd_svc::{Course, ServiceLook, is_running};
+use cmd_svc::{Course, ServiceLook, is_running, wants_up};
 use svc_record::{Counts, Ending, Exit};
-use tai_status::{Label, Loaded, Phase, Want, phase_name};
+use tai_status::{Label, Loaded, Phase, phase_name};
 
 /// A sample that a service has of a metric.
 #[derive(Clone, Copy, Debug, PartialEq, Eq)]
@@ -211,16 +210,6 @@ fn standing_value(sample: Sample, loaded: &Loaded, now: &Label) -> Option<u64>
         Sample::Supervised | Sample::Starts | Sample::Deaths => None,
         Sample::Ready | Sample::Finishing | Sample::BackingOff => None,
         Sample::LastStatus | Sample::LastSignal => None,
-    }
-}
-
-/// Returns whether a service is to be up.
-fn wants_up(want: Want) -> bool
-    ensures { result ≡ wants_up want }
-{
-    match want {
-        Want::Up => true,
-        Want::Down | Want::Once => false,
     }
 }
 

@@ -21,7 +21,7 @@ mod words;
 pub use course::{Course, about, ask_course, read_moment};
 pub use escaping::shown;
 pub use form::LineForm;
-pub use line::{is_running, push_number, stat_line};
+pub use line::{is_running, normal_note, paused_note, push_number, stat_line, wants_up};
 pub use listed::{ListedLine, Shade, is_colored, widest};
 pub use look::{ServiceLook, fault_name, look_at};
 pub use missing::tell_missing;

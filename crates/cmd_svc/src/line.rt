@@ -1,6 +1,6 @@
 ghost use Rattle.std.specs.Prelude.{◌≡◌, ◌++◌, string_bytes, decimal, codes, IfOk, OnOk};
 ghost use Rattle.cmd_svc.specs.Line.{status_line, is_running, is_exiting, state_text, normal_notes, phase_notes};
-ghost use Rattle.cmd_svc.specs.Line.{want_notes, note};
+ghost use Rattle.cmd_svc.specs.Line.{want_notes, wants_up, note};
 
 use crate::course::{Course, push_course};
 use itoa::Buffer;
@@ -59,6 +59,16 @@ pub fn is_running(view: &View) -> bool
     view.pid >= 1
 }
 
+/// Returns whether a process is wanted all the time.
+pub fn wants_up(want: Want) -> bool
+    ensures { result ≡ wants_up want }
+{
+    match want {
+        Want::Up => true,
+        Want::Down | Want::Once => false,
+    }
+}
+
 /// Writes a number at the end of a text.
 pub fn push_number<A: Allocator>(out: &mut String<A>, number: u128) -> Result<(), AllocError>
     ensures { OnOk result (string_bytes out.new ≡ string_bytes out.old ++ decimal number) }
@@ -80,7 +90,7 @@ fn push_state<A: Allocator>(out: &mut String<A>, view: &View) -> Result<(), Allo
 }
 
 /// Returns the note for a service that is not as it normally is.
-fn normal_note(view: &View, normally_up: bool) -> &'static str
+pub fn normal_note(view: &View, normally_up: bool) -> &'static str
     ensures { result.now ≡ normal_notes view.now normally_up }
 {
     match (is_running(view), normally_up) {
@@ -91,7 +101,7 @@ fn normal_note(view: &View, normally_up: bool) -> &'static str
 }
 
 /// Returns the note for a service that is paused.
-fn paused_note(view: &View) -> &'static str
+pub fn paused_note(view: &View) -> &'static str
     ensures { result.now ≡ note view.now.paused (codes ", paused") }
 {
     if view.paused { ", paused" } else { "" }

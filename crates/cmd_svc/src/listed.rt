@@ -2,17 +2,15 @@
 ghost use Rattle.std.specs.Prelude.{◌≡◌, ◌++◌, replicate, IfOk, OnOk};
 ghost use Rattle.cmd_svc.specs.Shown.{shown};
 ghost use Rattle.tai_status.specs.Loading.{status_in};
-ghost use Rattle.cmd_svc.specs.Line.{wants_up};
 ghost use Rattle.cmd_svc.specs.Listed.{code_end, code_of, is_colored, listed_line, room_for, shade_of, shaded};
 ghost use Rattle.cmd_svc.specs.Listed.{used_shade, widest, word_length};
 ghost use Rattle.tai_status.specs.Words.{texts};
 
 use crate::escaping::shown;
 use crate::form::LineForm;
-use crate::line::is_running;
+use crate::line::{is_running, wants_up};
 use crate::look::{ServiceLook, look_line};
 use std::alloc::{AllocError, Allocator};
-use tai_status::Want;
 
 /// The longest name, in bytes, for which other names leave room.
 const WIDEST: usize = 32;
@@ -53,16 +51,6 @@ pub fn is_colored(terminal: bool, unset: bool) -> bool
     ensures { result ≡ is_colored terminal unset }
 {
     terminal && unset
-}
-
-/// Returns whether a process is wanted all the time.
-fn wants_up(want: Want) -> bool
-    ensures { result ≡ wants_up want }
-{
-    match want {
-        Want::Up => true,
-        Want::Down | Want::Once => false,
-    }
 }
 
 /// Returns the shade of a state.

@@ -66,14 +66,6 @@ want_words running want.Up = note (not running) (codes ", wanted up")
 want_words running want.Down = note running (codes ", wanted down")
 want_words running want.Once = note running (codes ", wanted once")
 
--- the words that say whether it is paused
-unfoldable pub paused_text : Status → List ℕ
-paused_text status = note status.paused (codes ", paused")
-
--- the words that say whether it is not in its normal state
-unfoldable pub normal_text : Status → (normally_up : Bool) → List ℕ
-normal_text status normally_up = normal_notes status normally_up
-
 -- whether it is up, since when, and with which process
 unfoldable pub standing_text : Status → (time : List ℕ) → (now : Tai64n) → List ℕ
 standing_text status time now =
@@ -82,7 +74,7 @@ standing_text status time now =
 -- what is not as it should be
 unfoldable pub notes_text : Status → (normally_up : Bool) → List ℕ
 notes_text status normally_up =
-    paused_text status ++ want_words (is_running status) status.want ++ normal_text status normally_up
+    note status.paused (codes ", paused") ++ want_words (is_running status) status.want ++ normal_notes status normally_up
 
 -- the first sentence, after the name of the folder
 abbrev pub state_text : Loaded → (normally_up : Bool) → (time : List ℕ) → (now : Tai64n) → List ℕ

@@ -7,7 +7,7 @@ ghost use Rattle.cmd_why.specs.Sentences.{last_words, past_sentences, phase_text
 ghost use Rattle.cmd_why.specs.Sentences.{unstarted_text};
 ghost use Rattle.cmd_why.specs.Sentences.{side_text, signal_words, since_text, state_text, want_words, wanted_at};
 ghost use Rattle.cmd_why.specs.Sentences.{end_words, phase_words, starts_opening, wanted_sentence, why_line};
-ghost use Rattle.cmd_why.specs.Sentences.{normal_text, paused_text, sent_sentence};
+ghost use Rattle.cmd_why.specs.Sentences.{sent_sentence};
 ghost use Rattle.cmd_why.specs.Sentences.{ending_words, notes_text, signal_end, signal_text, standing_text};
 ghost use Rattle.cmd_why.specs.Sentences.{tenths_text};
 ghost use Rattle.std.specs.Option.{option_copied};
@@ -15,7 +15,7 @@ ghost use Rattle.std.specs.Option.{option_copied};
 use crate::courses::push_course;
 use crate::facts::{EndedProcess, FLAPPING, Facts, nanos};
 use crate::last_ends::{LastEnd, time_of_end};
-use cmd_svc::{Course, is_running, push_number};
+use cmd_svc::{Course, is_running, normal_note, paused_note, push_number};
 use std::alloc::{AllocError, Allocator};
 use sup_core::{byte_text, sig_name, signal_of};
 use svc_record::{Ending, Exit, signal_name};
@@ -147,9 +147,9 @@ fn push_notes<A: Allocator>(
 {
     push_three(
         out,
-        paused_text(view),
+        paused_note(view),
         want_words(is_running(view), view.want),
-        normal_text(view, normally_up),
+        normal_note(view, normally_up),
     )
 }
 
@@ -214,14 +214,6 @@ fn phase_text(loaded: &Loaded) -> &'static str
     }
 }
 
-/// Returns the words that say whether it is paused.
-#[tactic(auto, unfolding(crate::specs::Sentences::paused_text))]
-fn paused_text(view: &View) -> &'static str
-    ensures { result.now ≡ paused_text view.now }
-{
-    if view.paused { ", paused" } else { "" }
-}
-
 /// Returns what is wanted, in words, if that is not the present state.
 #[tactic(auto, unfolding(crate::specs::Sentences::want_words))]
 fn want_words(running: bool, want: Want) -> &'static str
@@ -231,18 +223,6 @@ fn want_words(running: bool, want: Want) -> &'static str
         (false, Want::Up) => ", wanted up",
         (true, Want::Down) => ", wanted down",
         (true, Want::Once) => ", wanted once",
-        _ => "",
-    }
-}
-
-/// Returns the words that say whether a service is not in its normal state.
-#[tactic(auto, unfolding(crate::specs::Sentences::normal_text))]
-fn normal_text(view: &View, normally_up: bool) -> &'static str
-    ensures { result.now ≡ normal_text view.now normally_up }
-{
-    match (is_running(view), normally_up) {
-        (true, false) => ", normally down",
-        (false, true) => ", normally up",
         _ => "",
     }
 }
