@@ -28,6 +28,11 @@ pub record Row : Type 0 where
   pub down : Bool
   pub log_down : Bool
 
+-- whether the row has the `down` file of the part with this role
+abbrev pub is_down : Role → Row → Bool
+is_down Main row = row.down
+is_down Log row = row.log_down
+
 -- A service's name is not empty and does not begin with a dot.
 abbrev pub is_service_name : List ℕ → Bool
 is_service_name [] = false

@@ -4,6 +4,7 @@ ghost use Rattle.scan_table.specs.Scan.{AreRising, IsFirstAt, IsOrderFault};
 ghost use Rattle.scan_table.specs.Order.{order_fault, fault_of, row_of, IsRowAt, HasNoRow};
 
 use crate::fault::ScanFault;
+use crate::part::Role;
 use std::alloc::{Allocator, Global};
 use std::cmp::Ordering;
 use std::marker::Model;
@@ -39,7 +40,7 @@ impl<A: Allocator> Model for DirRow<A> {
 }
 
 impl<A: Allocator> DirRow<A> {
-    ghost use Rattle.scan_table.specs.Slots.{is_eligible, is_pair};
+    ghost use Rattle.scan_table.specs.Slots.{is_down, is_eligible, is_pair};
 
     /// Returns the name of the entry.
     pub(crate) fn name(&self) -> &str
@@ -54,6 +55,16 @@ impl<A: Allocator> DirRow<A> {
         ensures { result ≡ is_eligible self.now }
     {
         self.is_dir && !matches!(self.name().as_bytes(), [] | [b'.', ..])
+    }
+
+    /// Returns whether the row has the file `down` of the part with this role.
+    pub fn is_down(&self, role: Role) -> bool
+        ensures { result ≡ is_down role self.now }
+    {
+        match role {
+            Role::Main => self.down,
+            Role::Log => self.log_down,
+        }
     }
 
     /// Returns whether a new slot of the row is a pair.

@@ -9,10 +9,9 @@ use Rattle.sup_core.specs.Rules.{IsEvent, asks_of_begin, reply_to}
 use Rattle.sup_trace.specs.Trace.{Kept, history_of, replay, noted_if_taken, new_trace}
 use Rattle.scan_table.specs.declared.part.PartId.{PartId}
 use Rattle.scan_table.specs.declared.part.Role.{Role}
-use Rattle.scan_table.specs.declared.part.Role.TheVariants.{Main, Log}
 use Rattle.scan_table.specs.declared.fault.ScanFault.{ScanFault}
 use Rattle.scan_table.specs.declared.table.ScanOut.{ScanOut}
-use Rattle.scan_table.specs.Slots.{Row, SlotState}
+use Rattle.scan_table.specs.Slots.{Row, SlotState, is_down}
 use Rattle.scan_table.specs.Scan.{starts, restarts, drops, refused}
 use Rattle.scan_table.specs.Order.{scan_refusal, row_of}
 use Rattle.scan_table.specs.Table.{TableState, new_table, scanned, after_end, slot_at}
@@ -83,10 +82,6 @@ outs_at id event (Some kept) =
 pub record Beginning : Type 0 where
   pub part : PartId
   pub down : Bool
-
-abbrev pub is_down : Role → Row → Bool
-is_down Main row = row.down
-is_down Log row = row.log_down
 
 abbrev pub says_down : Role → Option Row → Bool
 says_down role None = false

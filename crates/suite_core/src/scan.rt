@@ -4,24 +4,14 @@ ghost use Rattle.std.specs.List.{filter};
 ghost use Rattle.scan_table.specs.Scan.{AreRising};
 ghost use Rattle.suite_core.specs.Parts.{is_of, restarted_in};
 ghost use Rattle.suite_core.specs.Places;
-ghost use Rattle.suite_core.specs.Suite.{beginning, begun_part, begun_out, changed, is_down};
+ghost use Rattle.suite_core.specs.Suite.{beginning, begun_part, begun_out, changed};
 
 use crate::part::Part;
 use crate::place::restart_all;
-use scan_table::{DirRow, PartId, Role, ScanTable, find_row};
+use scan_table::{DirRow, PartId, ScanTable, find_row};
 use std::alloc::{AllocError, Allocator};
 use suite_lines::Begun;
 use tai_status::Label;
-
-/// Returns the `down` of a row: that of the service, or that of the logger.
-fn is_down<A: Allocator>(role: Role, row: &DirRow<A>) -> bool
-    ensures { result ≡ is_down role row.now }
-{
-    match role {
-        Role::Main => row.down,
-        Role::Log => row.log_down,
-    }
-}
 
 /// Returns the `down` for a part from the row of its service.
 fn begins_down<A: Allocator + Clone>(table: &ScanTable<A>, rows: &[DirRow<A>], id: PartId) -> bool
@@ -32,7 +22,7 @@ fn begins_down<A: Allocator + Clone>(table: &ScanTable<A>, rows: &[DirRow<A>], i
         return false;
     };
     match find_row(rows, name.as_str()) {
-        Some(row) => is_down(id.role, row),
+        Some(row) => row.is_down(id.role),
         None => false,
     }
 }

@@ -6,12 +6,12 @@ use Rattle.sup_core.specs.History.{state_of}
 use Rattle.svc_record.specs.Opening.{beginning}
 use Rattle.tai_status.specs.Label.{Tai64n}
 use Rattle.scan_table.specs.declared.part.PartId.{PartId}
-use Rattle.scan_table.specs.Slots.{Row, SlotState}
+use Rattle.scan_table.specs.Slots.{Row, SlotState, is_down}
 use Rattle.scan_table.specs.Order.{row_of}
 use Rattle.scan_table.specs.Table.{name_of, slot_at}
 use Rattle.svc_host.specs.declared.maker.PartFault.{PartFault}
 use Rattle.svc_host.specs.Parts.{HostPart}
-use Rattle.svc_host.specs.Begun.{Begins, IsBegun, is_down, row_at}
+use Rattle.svc_host.specs.Begun.{Begins, IsBegun, row_at}
 
 row_named : (rows : List Row) (slot : Option SlotState) (name : List ℕ) → option_map name_of slot ≡ Some name
     → row_at rows slot ≡ row_of rows name

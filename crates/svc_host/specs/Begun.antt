@@ -4,18 +4,11 @@ use Rattle.sup_core.specs.State.{is_gone}
 use Rattle.sup_core.specs.History.{History, state_of}
 use Rattle.svc_record.specs.Opening.{beginning}
 use Rattle.tai_status.specs.Label.{Tai64n}
-use Rattle.scan_table.specs.declared.part.Role.{Role}
-use Rattle.scan_table.specs.declared.part.Role.TheVariants.{Main, Log}
 use Rattle.scan_table.specs.declared.part.PartId.{PartId}
-use Rattle.scan_table.specs.Slots.{Row, SlotState}
+use Rattle.scan_table.specs.Slots.{Row, SlotState, is_down}
 use Rattle.scan_table.specs.Order.{row_of}
 use Rattle.scan_table.specs.Table.{slot_at}
 use Rattle.svc_host.specs.Parts.{HostPart, no_end_bytes, no_loss}
-
--- whether the row has the `down` file of the part with this role
-abbrev pub is_down : Role → Row → Bool
-is_down Main row = row.down
-is_down Log row = row.log_down
 
 -- the row of a slot
 abbrev pub row_at : List Row → Option SlotState → Option Row

@@ -8,7 +8,7 @@ ghost use Rattle.svc_host.specs.Calls.{StartsIfPair, StartsPair, has_pair, openi
 ghost use Rattle.svc_record.specs.Opening.{beginning};
 ghost use Rattle.scan_table.specs.Scan.{AreRising};
 ghost use Rattle.svc_host.specs.Parts.{IsHeard};
-ghost use Rattle.svc_host.specs.Begun.{Begins, HasRooms, IsBegun, is_down};
+ghost use Rattle.svc_host.specs.Begun.{Begins, HasRooms, IsBegun};
 
 use crate::ends::{PartEnds, open_station};
 use crate::growth::Growth;
@@ -18,7 +18,7 @@ use crate::part::Part;
 use crate::running::{Running, end};
 use crate::service::{Beginning, Task};
 use crate::shared::Activity;
-use scan_table::{DirRow, PartId, Role, ScanTable, find_row};
+use scan_table::{DirRow, PartId, ScanTable, find_row};
 use std::alloc::Global;
 use std::io;
 use std::sync::Arc;
@@ -37,16 +37,6 @@ pub(crate) struct Rooms {
     ghost some_mail: { 0 < mail },
     ghost some_trace: { 0 < trace },
     ghost within_trace: { trace ≤ 65536 },
-}
-
-/// Returns whether a row has the `down` file for the part of this role.
-fn is_down(row: &DirRow, role: Role) -> bool
-    ensures { result ≡ is_down role row.now }
-{
-    match role {
-        Role::Main => row.down,
-        Role::Log => row.log_down,
-    }
 }
 
 /// Returns whether the threads of the pair in a slot run.
@@ -176,7 +166,7 @@ impl<M: Maker + Drop, R: Runtime> PartFactory<M, R> {
         let Some(row) = find_row(rows, name.as_str()) else {
             return Err(PartFault::Refused(Cause::Missing));
         };
-        let down = is_down(row, id.role);
+        let down = row.is_down(id.role);
         self.make(name.as_str(), id, down, label)
     }
 
