@@ -8,7 +8,7 @@ use Rattle.scan_table.specs.Table.{name_of, slot_at}
 use Rattle.svc_host.specs.declared.host.Unmade as host
 use Rattle.svc_host.specs.declared.part.Loss.{Loss}
 use Rattle.svc_maker.specs.Making.{part_name}
-use Rattle.svscan_rounds.specs.declared.service_set.Unmade.{Unmade}
+use Rattle.svscan_rounds.specs.declared.service_set.UnmadePart.{UnmadePart}
 use Rattle.svscan_rounds.specs.declared.service_set.Untaken.{Untaken}
 
 -- the name of the service in a slot, if there is one
@@ -32,9 +32,9 @@ untraced_in slots losses =
     (filter (λ (lost : PartId × Loss). lost.1.lacks_trace) losses)
 
 -- a part that could not be made, and why
-abbrev pub unmade_of : List SlotState → host.Unmade → Unmade
+abbrev pub unmade_of : List SlotState → host.Unmade → UnmadePart
 unmade_of slots one = record { name = shown_name slots one.part; fault = one.fault }
 
 -- the parts that could not be made, and why
-abbrev pub unmade_in : List SlotState → List host.Unmade → List Unmade
+abbrev pub unmade_in : List SlotState → List host.Unmade → List UnmadePart
 unmade_in slots failed = map (unmade_of slots) failed

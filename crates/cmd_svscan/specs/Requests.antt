@@ -1,9 +1,9 @@
--- What is done for each request, and the reply.
+-- What is done for each request, and the response.
 use Rattle.std.specs.Prelude.{◌≡◌, ℕ, List, [], Option, Some, None, Result, Err, option_map, string_bytes}
 use Rattle.scan_table.specs.Slots.{Row}
 use Rattle.scan_table.specs.declared.fault.ScanFault.{ScanFault}
 use Rattle.scan_table.specs.declared.fault.ScanFault.TheVariants as scan
-use Rattle.svscan_rounds.specs.declared.service_set.Begun.{Begun}
+use Rattle.svscan_rounds.specs.declared.service_set.Beginning.{Beginning}
 use Rattle.svscan_rounds.specs.declared.service_set.ListFault.{ListFault}
 use Rattle.svscan_rounds.specs.declared.service_set.ListFault.TheVariants as list
 use Rattle.svscan_rounds.specs.declared.service_set.Listing.{Listing}
@@ -23,8 +23,8 @@ use Rattle.cmd_svscan.specs.Serving.{Serving}
 use Rattle.cmd_svscan.specs.Supervising.{OpensAndSupervises, Watches}
 use Rattle.cmd_svscan.specs.declared.folder_services.Request.{Request}
 use Rattle.cmd_svscan.specs.declared.folder_services.Request.TheVariants as request
-use Rattle.cmd_svscan.specs.declared.folder_services.Reply.{Reply}
-use Rattle.cmd_svscan.specs.declared.folder_services.Reply.TheVariants as reply
+use Rattle.cmd_svscan.specs.declared.folder_services.Response.{Response}
+use Rattle.cmd_svscan.specs.declared.folder_services.Response.TheVariants as response
 
 -- What each request does if there is a host. If there is none, memory is lacking, nothing is heard, and there is
 -- nothing left to end.
@@ -68,27 +68,27 @@ WatchesIf None sight None = sight ≡ Gone no_loss
 WatchesIf (Some old) sight (Some new) = Watches old.host sight new.host × (new.quiet ≡ old.quiet)
 WatchesIf old sight new = ⊥
 
--- This was done, and the request has its own kind of reply.
-abbrev pub Serves : Request → Reply → (old new : Option Serving) → Type 0
-Serves (request.Begin folder) (reply.Begun begun) old new = OpensAndBegins (string_bytes folder) old begun new
-Serves (request.List folder) (reply.Rows answer) old new = OpensAndLists old answer new
-Serves (request.Round folder rows) (reply.Round answer) old new =
+-- This was done, and the request has its own kind of response.
+abbrev pub Serves : Request → Response → (old new : Option Serving) → Type 0
+Serves (request.Begin folder) (response.Begun begun) old new = OpensAndBegins (string_bytes folder) old begun new
+Serves (request.List folder) (response.Rows answer) old new = OpensAndLists old answer new
+Serves (request.Round folder rows) (response.Round answer) old new =
     RoundsIf (string_bytes folder) old rows.items answer new
-Serves request.Hear (reply.Heard byte) old new = HearsIf old byte new
-Serves request.End (reply.Ended left) old new = EndsIf old (option_map (λ some. some.items) left) new
-Serves request.Leave (reply.Left unlogged) old new = LeavesIf old unlogged.items new
-Serves (request.Supervise folder) (reply.Supervised supervision) old new =
+Serves request.Hear (response.Heard byte) old new = HearsIf old byte new
+Serves request.End (response.Ended left) old new = EndsIf old (option_map (λ some. some.items) left) new
+Serves request.Leave (response.Left unlogged) old new = LeavesIf old unlogged.items new
+Serves (request.Supervise folder) (response.Supervised supervision) old new =
     OpensAndSupervises (string_bytes folder) old supervision new
-Serves request.Watch (reply.Watched sight) old new = WatchesIf old sight new
-Serves request reply old new = ⊥
+Serves request.Watch (response.Watched sight) old new = WatchesIf old sight new
+Serves request response old new = ⊥
 
--- Something is served in such a way that the request has this reply.
-pub record IsReplyTo (request : Request) (reply : Reply) : Type 0 where
+-- Something is served in such a way that the request has this response.
+pub record IsResponseTo (request : Request) (response : Response) : Type 0 where
   pub old : Option Serving
   pub new : Option Serving
-  pub serves : Serves request reply old new
+  pub serves : Serves request response old new
 
--- A function with these results replies to each request in such a way.
-abbrev pub RepliesAsServed : {F : Type 0} → (post : F → Request → Reply → Type 0) → Type 0
-RepliesAsServed {F = F} post =
-    (state : F) (request : Request) (reply : Reply) → post state request reply → IsReplyTo request reply
+-- A function with these results responses to each request in such a way.
+abbrev pub RespondsAsServed : {F : Type 0} → (post : F → Request → Response → Type 0) → Type 0
+RespondsAsServed {F = F} post =
+    (state : F) (request : Request) (response : Response) → post state request response → IsResponseTo request response

@@ -14,7 +14,7 @@ use Rattle.svc_host.specs.declared.host.Unmade as host
 use Rattle.svscan_rounds.specs.Quiet.{scanned}
 use Rattle.svscan_rounds.specs.declared.quiet.Quiet.{Quiet}
 use Rattle.svscan_rounds.specs.declared.service_set.RoundOut.{RoundOut}
-use Rattle.svscan_rounds.specs.declared.service_set.Unmade.{Unmade}
+use Rattle.svscan_rounds.specs.declared.service_set.UnmadePart.{UnmadePart}
 use Rattle.cmd_svscan.specs.Asking.{IsAsked, Prepares}
 use Rattle.cmd_svscan.specs.Losses.{unmade_in, untaken_in, untraced_in}
 
@@ -27,7 +27,7 @@ pub record DidNothing (out : RoundOut) : Type 0 where
 
 -- The parts that could not be made are named, and after them those that could not be admitted: as many as there was
 -- memory for.
-pub record NamesUnmade (slots : List SlotState) (failed : List host.Unmade) (named : List Unmade) : Type 0 where
+pub record NamesUnmade (slots : List SlotState) (failed : List host.Unmade) (named : List UnmadePart) : Type 0 where
   pub refusals : List host.Unmade
   pub first : IsPrefix named (unmade_in slots (failed ++ refusals))
 

@@ -17,7 +17,7 @@ use Rattle.svscan_rounds.specs.declared.service_set.Sight.{Sight}
 use Rattle.svscan_rounds.specs.declared.service_set.Sight.TheVariants.{Runs, Gone}
 use Rattle.svscan_rounds.specs.declared.service_set.Supervision.{Supervision}
 use Rattle.svscan_rounds.specs.declared.service_set.Supervision.TheVariants.{Kept, Unmade}
-use Rattle.svscan_rounds.specs.declared.service_set.Unmade as set
+use Rattle.svscan_rounds.specs.declared.service_set.UnmadePart as set
 use Rattle.cmd_svscan.specs.Asking.{IsAsked}
 use Rattle.cmd_svscan.specs.Beginning.{Opens}
 use Rattle.cmd_svscan.specs.Looking.{IsUpToDate}
@@ -32,7 +32,7 @@ abbrev pub no_memory : PartFault
 no_memory = Refused NoMemory
 
 -- why the first of these parts was not made, if there is one
-abbrev pub first_fault : List set.Unmade → Option PartFault
+abbrev pub first_fault : List set.UnmadePart → Option PartFault
 first_fault [] = None
 first_fault (one ∷ others) = Some one.fault
 

@@ -4,7 +4,7 @@ ghost use Rattle.cmd_svscan.specs.Beginning.{Begins, BeginsIf, Opens, OpensAndBe
 
 use crate::asking::serve_own;
 use crate::own_status::own_record;
-use crate::running::{MAIL, Running, SystemHost, open_host};
+use crate::running::{MAIL, RunningHost, SystemHost, open_host};
 use std::alloc::Global;
 use std::fs::Files;
 use std::net::Net;
@@ -13,17 +13,17 @@ use std::{fs, process};
 use svc_host::Runtime;
 use svc_maker::{FolderHolder, OwnFault};
 use svc_system::FolderFault;
-use svscan_rounds::Begun;
+use svscan_rounds::Beginning;
 use tai_status::Cause;
 
 /// Returns what is said about svscan itself if it is not served.
-fn unserved(fault: OwnFault) -> Begun
+fn unserved(fault: OwnFault) -> Beginning
     ensures { result ≡ unserved fault }
 {
     match fault {
-        OwnFault::Unopened(FolderFault::Locked) => Begun::Locked,
+        OwnFault::Unopened(FolderFault::Locked) => Beginning::Locked,
         OwnFault::Unopened(FolderFault::NotOpened(cause)) | OwnFault::NotAdmitted(cause) =>
-            Begun::Unserved(cause),
+            Beginning::Unserved(cause),
     }
 }
 
@@ -32,25 +32,25 @@ fn begin<M, R>(
     rt: R,
     files: HostRuntime,
     alloc: Global,
-    running: &mut Running<M, R>,
+    running: &mut RunningHost<M, R>,
     folder: &str,
-) -> Begun
+) -> Beginning
 where
     M: FolderHolder + Drop,
     R: Runtime,
     ensures { Begins folder.now running.old running.new }
 {
     let Ok(path) = format!(in alloc; "{folder}/.svscan") else {
-        return Begun::Unserved(Cause::NoMemory);
+        return Beginning::Unserved(Cause::NoMemory);
     };
     let Some((sender, inbox)) = running.host.own_mailbox(MAIL) else {
-        return Begun::Unserved(Cause::NoMemory);
+        return Beginning::Unserved(Cause::NoMemory);
     };
     let record = own_record(rt, process::id(files.process()));
     match serve_own(&mut running.host, path, &record, sender) {
         Ok(()) => {
             running.inbox = Some(inbox);
-            Begun::Served
+            Beginning::Served
         }
         Err(fault) => unserved(fault),
     }
@@ -86,20 +86,20 @@ fn try_begin<M, R>(
     rt: R,
     files: HostRuntime,
     alloc: Global,
-    running: &mut Option<Running<M, R>>,
+    running: &mut Option<RunningHost<M, R>>,
     folder: &str,
-) -> Begun
+) -> Beginning
 where
     M: FolderHolder + Drop,
     R: Files + Runtime,
     ensures { BeginsIf folder.now running.old result running.new }
 {
     if let Err(cause) = read_folder(&rt, alloc, folder) {
-        return Begun::Unread(cause);
+        return Beginning::Unread(cause);
     }
     match running {
         Some(running) => begin(rt, files, alloc, running, folder),
-        None => Begun::Refused(Cause::NoMemory),
+        None => Beginning::Refused(Cause::NoMemory),
     }
 }
 
@@ -111,14 +111,14 @@ pub(crate) fn open_and_begin<R>(
     alloc: Global,
     running: &mut Option<SystemHost<R>>,
     folder: &str,
-) -> Begun
+) -> Beginning
 where
     R: Files + Net + Processes<Started = SystemProcess>,
     R: Runtime + Sync,
     ensures { OpensAndBegins folder.now running.old result running.new }
 {
     if let Err(cause) = open(rt, files, alloc, running) {
-        return Begun::Refused(cause);
+        return Beginning::Refused(cause);
     }
     try_begin(rt, files, alloc, running, folder)
 }

@@ -7,7 +7,7 @@ use crate::beginning::{open, open_and_begin};
 use crate::closing::{end, leave};
 use crate::looking::list;
 use crate::resting::hear;
-use crate::running::{Running, SystemHost};
+use crate::running::{RunningHost, SystemHost};
 use crate::scanning::round;
 use crate::supervising::{open_and_supervise, watch};
 use scan_table::{DirRow, ScanFault};
@@ -19,7 +19,7 @@ use std::thread;
 use svc_host::{Loss, Maker, PartFault, Runtime};
 use svc_maker::FolderHolder;
 use svscan_rounds::{
-    Begun, ListFault, Listing, Remaining, RoundOut, ServiceSet, Sight, Supervision, Unlogged,
+    Beginning, ListFault, Listing, Remaining, RoundOut, ServiceSet, Sight, Supervision, Unlogged,
     whole_rest,
 };
 use tai_status::Cause;
@@ -45,31 +45,31 @@ pub enum Request {
     Watch,
 }
 
-/// The result of a request: each request has its own kind of reply (specs/Requests).
+/// The result of a request: each request has its own kind of response (specs/Requests).
 #[derive(Drop)]
-pub enum Reply {
-    /// The reply to `Begin`.
-    Begun(Begun),
-    /// The reply to `List`.
+pub enum Response {
+    /// The response to `Begin`.
+    Begun(Beginning),
+    /// The response to `List`.
     Rows(Result<Listing, ListFault>),
-    /// The reply to `Round`.
+    /// The response to `Round`.
     Round(Result<RoundOut, ScanFault>),
-    /// The reply to `Hear`.
+    /// The response to `Hear`.
     Heard(Option<u8>),
-    /// The reply to `End`.
+    /// The response to `End`.
     Ended(Option<Vec<Remaining>>),
-    /// The reply to `Leave`.
+    /// The response to `Leave`.
     Left(Vec<Unlogged>),
-    /// The reply to `Supervise`.
+    /// The response to `Supervise`.
     Supervised(Supervision),
-    /// The reply to `Watch`.
+    /// The response to `Watch`.
     Watched(Sight),
 }
 
 /// Returns the next of svscan's own control bytes, or None once the next round is due.
 fn hear_or_sleep<M: Maker + Drop, R: Runtime>(
     rt: R,
-    running: &mut Option<Running<M, R>>,
+    running: &mut Option<RunningHost<M, R>>,
 ) -> Option<u8>
     ensures { HearsIf running.old result running.new }
 {
@@ -86,7 +86,7 @@ fn hear_or_sleep<M: Maker + Drop, R: Runtime>(
 fn try_end<M: Maker + Drop, R: Runtime>(
     rt: R,
     alloc: Global,
-    running: &mut Option<Running<M, R>>,
+    running: &mut Option<RunningHost<M, R>>,
 ) -> Option<Vec<Remaining>>
     ensures { EndsIf running.old (option_map (λ left. left.items) result) running.new }
 {
@@ -100,7 +100,7 @@ fn try_end<M: Maker + Drop, R: Runtime>(
 fn try_leave<M: FolderHolder + Drop, R: Runtime>(
     rt: R,
     alloc: Global,
-    running: &mut Option<Running<M, R>>,
+    running: &mut Option<RunningHost<M, R>>,
 ) -> Vec<Unlogged>
     ensures { LeavesIf running.old result.items running.new }
 {
@@ -114,7 +114,7 @@ fn try_leave<M: FolderHolder + Drop, R: Runtime>(
 fn try_list<M, R>(
     rt: &R,
     alloc: Global,
-    running: &mut Option<Running<M, R>>,
+    running: &mut Option<RunningHost<M, R>>,
     folder: &str,
 ) -> Result<Listing, ListFault>
 where
@@ -149,7 +149,7 @@ where
 fn try_round<M: FolderHolder + Drop, R: Runtime>(
     rt: R,
     alloc: Global,
-    running: &mut Option<Running<M, R>>,
+    running: &mut Option<RunningHost<M, R>>,
     folder: &str,
     rows: &[DirRow],
 ) -> Result<RoundOut, ScanFault>
@@ -162,7 +162,7 @@ fn try_round<M: FolderHolder + Drop, R: Runtime>(
 }
 
 /// Watches over the one service, if there is a host.
-fn try_watch<M: FolderHolder + Drop, R: Runtime>(running: &mut Option<Running<M, R>>) -> Sight
+fn try_watch<M: FolderHolder + Drop, R: Runtime>(running: &mut Option<RunningHost<M, R>>) -> Sight
     ensures { WatchesIf running.old result running.new }
 {
     match running {
@@ -179,7 +179,7 @@ pub fn handle<R>(
     alloc: Global,
     running: &mut Option<SystemHost<R>>,
     request: Request,
-) -> Reply
+) -> Response
 where
     R: Files + Net + Processes<Started = SystemProcess>,
     R: Runtime + Sync,
@@ -187,21 +187,21 @@ where
 {
     match request {
         Request::Begin(folder) => {
-            Reply::Begun(open_and_begin(rt, files, alloc, running, folder.as_str()))
+            Response::Begun(open_and_begin(rt, files, alloc, running, folder.as_str()))
         }
         Request::List(folder) => {
-            Reply::Rows(open_and_list(rt, files, alloc, running, folder.as_str()))
+            Response::Rows(open_and_list(rt, files, alloc, running, folder.as_str()))
         }
         Request::Round { folder, rows } => {
-            Reply::Round(try_round(rt, alloc, running, folder.as_str(), &rows))
+            Response::Round(try_round(rt, alloc, running, folder.as_str(), &rows))
         }
-        Request::Hear => Reply::Heard(hear_or_sleep(rt, running)),
-        Request::End => Reply::Ended(try_end(rt, alloc, running)),
-        Request::Leave => Reply::Left(try_leave(rt, alloc, running)),
+        Request::Hear => Response::Heard(hear_or_sleep(rt, running)),
+        Request::End => Response::Ended(try_end(rt, alloc, running)),
+        Request::Leave => Response::Left(try_leave(rt, alloc, running)),
         Request::Supervise(folder) => {
-            Reply::Supervised(open_and_supervise(rt, files, alloc, running, folder.as_str()))
+            Response::Supervised(open_and_supervise(rt, files, alloc, running, folder.as_str()))
         }
-        Request::Watch => Reply::Watched(try_watch(running)),
+        Request::Watch => Response::Watched(try_watch(running)),
     }
 }
 
@@ -210,14 +210,14 @@ where
 ///
 /// That is a function, not the host itself, because a trait's method can't make threads here.
 #[derive(Drop)]
-pub struct FolderServices<F: FnMut(Request) -> Reply + Drop> {
+pub struct FolderServices<F: FnMut(Request) -> Response + Drop> {
     alloc: Global,
     handle: F,
 }
 
-impl<F: FnMut(Request) -> Reply + Drop> FolderServices<F> {
+impl<F: FnMut(Request) -> Response + Drop> FolderServices<F> {
     /// Makes the value that keeps services running by requests to this function. The function may always be called, and
-    /// each of its replies is the reply of something that is served.
+    /// each of its responses is the response of something that is served.
     pub fn new(alloc: Global, handle: F) -> FolderServices<F>
         ensures { result.handle ≡ handle }
     {
@@ -225,18 +225,18 @@ impl<F: FnMut(Request) -> Reply + Drop> FolderServices<F> {
     }
 }
 
-impl<F: FnMut(Request) -> Reply + Drop> ServiceSet for FolderServices<F> {
-    ghost use Rattle.cmd_svscan.specs.Requests.{RepliesAsServed};
+impl<F: FnMut(Request) -> Response + Drop> ServiceSet for FolderServices<F> {
+    ghost use Rattle.cmd_svscan.specs.Requests.{RespondsAsServed};
 
-    // The function may always be called, and its replies are those of something that is served.
-    ghost ready = { λ services. F.IsAlwaysCallable services.handle × RepliesAsServed F.post };
+    // The function may always be called, and its responses are those of something that is served.
+    ghost ready = { λ services. F.IsAlwaysCallable services.handle × RespondsAsServed F.post };
 
-    fn begin(&mut self, folder: &str) -> Begun {
+    fn begin(&mut self, folder: &str) -> Beginning {
         let Ok(folder) = String::from_str(self.alloc, folder) else {
-            return Begun::Unserved(Cause::NoMemory);
+            return Beginning::Unserved(Cause::NoMemory);
         };
         match (self.handle)(Request::Begin(folder)) {
-            Reply::Begun(begun) => begun,
+            Response::Begun(begun) => begun,
             _ => unreachable!(),
         }
     }
@@ -246,7 +246,7 @@ impl<F: FnMut(Request) -> Reply + Drop> ServiceSet for FolderServices<F> {
             return Err(ListFault::OutOfMemory);
         };
         match (self.handle)(Request::List(folder)) {
-            Reply::Rows(listing) => listing,
+            Response::Rows(listing) => listing,
             _ => unreachable!(),
         }
     }
@@ -256,28 +256,28 @@ impl<F: FnMut(Request) -> Reply + Drop> ServiceSet for FolderServices<F> {
             return Err(ScanFault::OutOfMemory);
         };
         match (self.handle)(Request::Round { folder, rows }) {
-            Reply::Round(out) => out,
+            Response::Round(out) => out,
             _ => unreachable!(),
         }
     }
 
     fn hear(&mut self) -> Option<u8> {
         match (self.handle)(Request::Hear) {
-            Reply::Heard(byte) => byte,
+            Response::Heard(byte) => byte,
             _ => unreachable!(),
         }
     }
 
     fn end(&mut self) -> Option<Vec<Remaining>> {
         match (self.handle)(Request::End) {
-            Reply::Ended(left) => left,
+            Response::Ended(left) => left,
             _ => unreachable!(),
         }
     }
 
     fn leave(&mut self) -> Vec<Unlogged> {
         match (self.handle)(Request::Leave) {
-            Reply::Left(unlogged) => unlogged,
+            Response::Left(unlogged) => unlogged,
             _ => unreachable!(),
         }
     }
@@ -287,14 +287,14 @@ impl<F: FnMut(Request) -> Reply + Drop> ServiceSet for FolderServices<F> {
             return Supervision::Unmade(PartFault::Refused(Cause::NoMemory));
         };
         match (self.handle)(Request::Supervise(folder)) {
-            Reply::Supervised(supervision) => supervision,
+            Response::Supervised(supervision) => supervision,
             _ => unreachable!(),
         }
     }
 
     fn watch(&mut self) -> Sight {
         match (self.handle)(Request::Watch) {
-            Reply::Watched(sight) => sight,
+            Response::Watched(sight) => sight,
             _ => unreachable!(),
         }
     }

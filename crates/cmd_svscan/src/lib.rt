@@ -25,7 +25,7 @@ mod running;
 mod scanning;
 mod supervising;
 
-pub use folder_services::{FolderServices, Reply, Request, handle};
+pub use folder_services::{FolderServices, Request, Response, handle};
 pub use listing::{FolderNames, list_names, list_rows};
-pub use running::{Running, SystemHost};
+pub use running::{RunningHost, SystemHost};
 pub use svscan_rounds::{ServiceSet, run_supervise, run_svscan};

@@ -6,7 +6,7 @@ ghost use Rattle.cmd_svscan.specs.Looking.{rows_in, rows_listed};
 use crate::asking::any_waits;
 use crate::limits::allowed_descriptors;
 use crate::listing::{FolderNames, has_names, list_names, list_rows};
-use crate::running::Running;
+use crate::running::RunningHost;
 use cmd_base::SystemClock;
 use scan_table::DirRow;
 use std::alloc::Global;
@@ -98,7 +98,7 @@ fn first_shortage(is_first: bool, rows: &[DirRow]) -> Option<Shortage>
 fn look<M, R>(
     rt: &R,
     alloc: Global,
-    running: &mut Running<M, R>,
+    running: &mut RunningHost<M, R>,
     folder: &str,
 ) -> Result<Listing, ListFault>
 where
@@ -137,7 +137,7 @@ where
 pub(crate) fn list<M, R>(
     rt: &R,
     alloc: Global,
-    running: &mut Running<M, R>,
+    running: &mut RunningHost<M, R>,
     folder: &str,
 ) -> Result<Listing, ListFault>
 where

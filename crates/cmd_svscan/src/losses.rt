@@ -10,7 +10,7 @@ use scan_table::PartId;
 use std::alloc::{AllocError, Global};
 use svc_host::{Host, Loss, Maker, Runtime};
 use svc_maker::part_name;
-use svscan_rounds::{Remaining, Unfinished, Unlogged, Unmade, Untaken};
+use svscan_rounds::{Remaining, Unfinished, Unlogged, UnmadePart, Untaken};
 use tai_status::{Name, Names, View};
 
 /// Returns the name of the service in a slot. It is empty if there is none.
@@ -92,10 +92,10 @@ fn unmade_of<M: Maker + Drop, R: Runtime>(
     alloc: Global,
     host: &Host<M, R>,
     one: &svc_host::Unmade,
-) -> Result<Unmade, AllocError>
+) -> Result<UnmadePart, AllocError>
     ensures { IfOk result (λ unmade. unmade ≡ unmade_of host.now.table.slots one.now) }
 {
-    Ok(Unmade {
+    Ok(UnmadePart {
         name: shown_name(alloc, host, one.part)?,
         fault: one.fault,
     })
@@ -107,7 +107,7 @@ pub(crate) fn unmade_in<M: Maker + Drop, R: Runtime>(
     alloc: Global,
     host: &Host<M, R>,
     failed: &[svc_host::Unmade],
-) -> Vec<Unmade>
+) -> Vec<UnmadePart>
     ensures { IsPrefix result.items (unmade_in host.now.table.slots failed.now) }
 {
     let mut all = Vec::new(alloc);

@@ -3,7 +3,7 @@ ghost use Rattle.cmd_svscan.specs.Resting.{AreCollectedInTurn, Hears};
 ghost use Rattle.cmd_svscan.specs.Serving.{IsNextByte, given_by};
 
 use crate::looking::join_unless;
-use crate::running::Running;
+use crate::running::RunningHost;
 use std::sync::Wait;
 use std::time::{Clock, Duration};
 use svc_host::{Host, Maker, Runtime};
@@ -54,7 +54,7 @@ where
 }
 
 /// Rests until a byte comes, or the rest is over that began after the last round.
-pub(crate) fn hear<M, R>(rt: R, running: &mut Running<M, R>) -> Option<u8>
+pub(crate) fn hear<M, R>(rt: R, running: &mut RunningHost<M, R>) -> Option<u8>
 where
     M: Maker + Drop,
     R: Runtime,

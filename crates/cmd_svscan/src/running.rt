@@ -26,7 +26,7 @@ const TRACE: usize = 256;
 /// The services of this system that are served: their host, and the inbox for svscan's own control bytes. Contracts see
 /// it as `Serving`: the host, whether the next round is idle, and the bytes that came.
 #[derive(Drop)]
-pub struct Running<M: Maker + Drop, R: Runtime> {
+pub struct RunningHost<M: Maker + Drop, R: Runtime> {
     pub(crate) host: Host<M, R>,
     pub(crate) inbox: Option<MailInbox>,
     // When the last round was over, by the running clock.
@@ -37,7 +37,7 @@ pub struct Running<M: Maker + Drop, R: Runtime> {
     pub(crate) quiet: Quiet,
 }
 
-impl<M: Maker + Drop, R: Runtime> Model for Running<M, R> {
+impl<M: Maker + Drop, R: Runtime> Model for RunningHost<M, R> {
     ghost use Rattle.cmd_svscan.specs.Serving.{Serving, given_by};
 
     ghost Value = { Serving };
@@ -50,7 +50,7 @@ impl<M: Maker + Drop, R: Runtime> Model for Running<M, R> {
 }
 
 /// The services of this system that are served.
-pub type SystemHost<R> = Running<FolderMaker<SystemParts<R>>, R>;
+pub type SystemHost<R> = RunningHost<FolderMaker<SystemParts<R>>, R>;
 
 /// Opens the door of this system's services, and makes their host.
 pub(crate) fn open_host<R>(rt: R, files: HostRuntime, alloc: Global) -> io::Result<SystemHost<R>>
@@ -62,7 +62,7 @@ where
     let door = Door::open(&rt, alloc)?;
     let adoptions = AdoptionWatch::open(&rt, alloc)?;
     let system = SystemParts::new(rt, files, alloc, door, adoptions)?;
-    Ok(Running {
+    Ok(RunningHost {
         host: Host::new(rt, alloc, FolderMaker::new(alloc, system), MAIL, TRACE)?,
         inbox: None,
         rests_since: None,

@@ -8,13 +8,13 @@ ghost use Rattle.cmd_svscan.specs.Scanning.{DidNothing, NamesUnmade, Rounds, Sca
 use crate::asking::{admit_all, allow, prepare_outputs, refusals, set_folder};
 use crate::limits::allowed_descriptors;
 use crate::losses::{losses_of, unmade_in};
-use crate::running::Running;
+use crate::running::RunningHost;
 use cmd_base::SystemClock;
 use scan_table::{DirRow, ScanFault};
 use std::alloc::{AllocError, Global};
 use svc_host::{Host, HostOut, Runtime};
 use svc_maker::FolderHolder;
-use svscan_rounds::{RoundOut, Unmade};
+use svscan_rounds::{RoundOut, UnmadePart};
 use tai_status::{Names, TimeSource};
 
 /// Returns what a round did if there was nothing to do.
@@ -35,7 +35,7 @@ fn admit<M, R>(
     alloc: Global,
     host: &mut Host<M, R>,
     mut failed: Vec<svc_host::Unmade>,
-) -> Vec<Unmade>
+) -> Vec<UnmadePart>
 where
     M: FolderHolder + Drop,
     R: Runtime,
@@ -124,7 +124,7 @@ where
 pub(crate) fn round<M, R>(
     rt: R,
     alloc: Global,
-    running: &mut Running<M, R>,
+    running: &mut RunningHost<M, R>,
     folder: &str,
     rows: &[DirRow],
 ) -> Result<RoundOut, ScanFault>

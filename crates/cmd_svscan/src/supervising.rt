@@ -8,7 +8,7 @@ ghost use Rattle.cmd_svscan.specs.Supervising.{first_fault, first_loss, lone_row
 use crate::asking::{admit_all, refusals};
 use crate::beginning::open;
 use crate::looking::bring_up_to_date;
-use crate::running::{Running, SystemHost};
+use crate::running::{RunningHost, SystemHost};
 use crate::scanning::scan;
 use scan_table::{DirRow, PartId};
 use std::alloc::{AllocError, Global};
@@ -18,7 +18,7 @@ use std::net::Net;
 use std::process::{Processes, SystemProcess};
 use svc_host::{Host, Loss, Maker, PartFault, Runtime};
 use svc_maker::FolderHolder;
-use svscan_rounds::{ServicePlace, Sight, Supervision, Unmade, place_of, whole_rest};
+use svscan_rounds::{ServicePlace, Sight, Supervision, UnmadePart, place_of, whole_rest};
 use tai_status::{Cause, Name};
 
 /// Returns the row of a service without a logger.
@@ -51,7 +51,7 @@ fn row_at<R: Files>(rt: &R, alloc: Global, dir: &str, name: &str) -> Result<DirR
 }
 
 /// Returns why the first of some parts was not made.
-fn first_fault(unmade: &[Unmade]) -> Option<PartFault>
+fn first_fault(unmade: &[UnmadePart]) -> Option<PartFault>
     ensures { result ≡ first_fault unmade.now }
 {
     match unmade {
@@ -61,7 +61,7 @@ fn first_fault(unmade: &[Unmade]) -> Option<PartFault>
 }
 
 /// Returns what came of the begin of a service, after a scan that could not make these parts.
-fn supervision<M, R>(host: &Host<M, R>, name: &str, unmade: &[Unmade]) -> Supervision
+fn supervision<M, R>(host: &Host<M, R>, name: &str, unmade: &[UnmadePart]) -> Supervision
 where
     M: Maker + Drop,
     R: Runtime,
@@ -100,7 +100,7 @@ where
 fn try_supervise<M, R>(
     rt: R,
     alloc: Global,
-    running: &mut Option<Running<M, R>>,
+    running: &mut Option<RunningHost<M, R>>,
     dir: &str,
 ) -> Supervision
 where

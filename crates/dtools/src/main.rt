@@ -2,7 +2,7 @@
 //! the command.
 #![tactic(auto)]
 
-ghost use Rattle.cmd_svscan.specs.Requests.{IsReplyTo};
+ghost use Rattle.cmd_svscan.specs.Requests.{IsResponseTo};
 
 mod command;
 mod devices;
@@ -17,7 +17,7 @@ use cmd_multilog::{
     FolderStore, LineClock, LineLabels, Stoppable, SystemInput, SystemLogs, stop_channel,
 };
 use cmd_svc::{ListedLine, is_colored, run_svstat_as, widest};
-use cmd_svscan::{FolderServices, Reply, Request, ServiceSet, SystemHost, handle};
+use cmd_svscan::{FolderServices, Request, Response, ServiceSet, SystemHost, handle};
 use cmd_wait::SystemPace;
 use command::run;
 use devices::Devices;
@@ -31,7 +31,7 @@ use std::sync::Wait;
 use svc_client::{Observer, SystemServices};
 use tai_status::{Counted, Output};
 use tools::{Platform, Tools};
-use words::{WordsFault, listed_words};
+use words::{ProgramWordsFault, listed_words};
 
 /// The input of a logger on this system.
 type SystemLines<'l> = Stoppable<SystemInput<'l, Stdin, SystemClock<HostRuntime>>>;
@@ -95,8 +95,8 @@ fn main(rt: HostRuntime) -> ExitCode {
     };
     let alloc = rt.alloc();
     let mut host: Option<SystemHost<HostRuntime>> = None;
-    let handling = |request: Request| -> Reply
-        ensures { IsReplyTo request result }
+    let handling = |request: Request| -> Response
+        ensures { IsResponseTo request result }
     { handle(rt, rt, alloc, &mut host, request) };
     let service_set = FolderServices::new(alloc, handling);
     ExitCode::from(run_arguments(rt, rt, Stoppable::new(input), service_set, devices))
@@ -128,7 +128,7 @@ fn run_arguments<'l, V: Wait + Drop, P: ServiceSet + Drop>(
     let mut words = Vec::new(rt.alloc());
     for text in &program.words {
         if words.push(text.as_str()).is_err() {
-            return refuse_words(&WordsFault::OutOfMemory, &mut devices.faults);
+            return refuse_words(&ProgramWordsFault::OutOfMemory, &mut devices.faults);
         }
     }
     if program.is_list {
@@ -173,7 +173,7 @@ fn run_words<'l, V: Wait + Drop, P: ServiceSet + Drop>(
     requires { P.ready service_set }
 {
     let Ok(zone) = zone_for(&rt, words) else {
-        return refuse_words(&WordsFault::OutOfMemory, &mut devices.faults);
+        return refuse_words(&ProgramWordsFault::OutOfMemory, &mut devices.faults);
     };
     let system = SystemLogs::new(rt, rt.stderr(), rt.alloc());
     match FolderStore::new(system, rt.alloc()) {
@@ -191,7 +191,7 @@ fn run_words<'l, V: Wait + Drop, P: ServiceSet + Drop>(
             };
             run(&mut tools, words)
         }
-        Err(_) => refuse_words(&WordsFault::OutOfMemory, &mut devices.faults),
+        Err(_) => refuse_words(&ProgramWordsFault::OutOfMemory, &mut devices.faults),
     }
 }
 
@@ -207,11 +207,11 @@ fn zone_for(rt: &HostRuntime, words: &[&str]) -> Result<LocalZone, AllocError> {
 }
 
 /// Reports why the words are not run, and returns the exit status for that.
-fn refuse_words<E: Write>(fault: &WordsFault, faults: &mut Output<E>) -> u8 {
+fn refuse_words<E: Write>(fault: &ProgramWordsFault, faults: &mut Output<E>) -> u8 {
     match fault {
-        WordsFault::OutOfMemory => report(faults, b"dtools: OutOfMemory\n", TROUBLE),
-        WordsFault::NoText(line) => report(faults, line.as_bytes(), REFUSED),
-        WordsFault::NoList(cause) => {
+        ProgramWordsFault::OutOfMemory => report(faults, b"dtools: OutOfMemory\n", TROUBLE),
+        ProgramWordsFault::NoText(line) => report(faults, line.as_bytes(), REFUSED),
+        ProgramWordsFault::NoList(cause) => {
             report_device(faults, b"svstat: ", b"unable to read SVDIR", Some(*cause))
         }
     }

@@ -18,7 +18,7 @@ const SIZES: u32 = 11;
 
 /// Why the words are not run.
 #[derive(Debug, Drop)]
-pub(crate) enum WordsFault {
+pub(crate) enum ProgramWordsFault {
     /// There is no memory for them.
     OutOfMemory,
     /// A word is not text, and names no service. This is the line that says which one.
@@ -27,9 +27,9 @@ pub(crate) enum WordsFault {
     NoList(Cause),
 }
 
-impl From<AllocError> for WordsFault {
-    fn from(_fault: AllocError) -> WordsFault {
-        WordsFault::OutOfMemory
+impl From<AllocError> for ProgramWordsFault {
+    fn from(_fault: AllocError) -> ProgramWordsFault {
+        ProgramWordsFault::OutOfMemory
     }
 }
 
@@ -38,11 +38,11 @@ impl From<AllocError> for WordsFault {
 /// If a command names services, a word of it that is not text is replaced by a name that no file has. The command then
 /// reports that this service does not exist, and shows the others. A word that is not text is refused if it begins with
 /// `-`, and for any other command.
-fn program_words(rt: &HostRuntime) -> Result<Vec<String>, WordsFault> {
+fn program_words(rt: &HostRuntime) -> Result<Vec<String>, ProgramWordsFault> {
     let all = match env::args(rt) {
         Ok(all) => all,
         Err(fault) if fault.kind() == ErrorKind::OutOfMemory => {
-            return Err(WordsFault::OutOfMemory);
+            return Err(ProgramWordsFault::OutOfMemory);
         }
         Err(_) => return words_of_bytes(rt),
     };
@@ -66,7 +66,7 @@ pub(crate) struct ProgramWords {
 ///
 /// It is not inlined, so that its paths are not on the stack while a command runs.
 #[inline(never)]
-pub(crate) fn listed_words(rt: &HostRuntime) -> Result<ProgramWords, WordsFault> {
+pub(crate) fn listed_words(rt: &HostRuntime) -> Result<ProgramWords, ProgramWordsFault> {
     let words = program_words(rt)?;
     let Some(listing) = listing_in(&words) else {
         return Ok(as_given(words));
@@ -77,8 +77,8 @@ pub(crate) fn listed_words(rt: &HostRuntime) -> Result<ProgramWords, WordsFault>
             words: svstat_of(rt, listing.form, services)?,
             is_list: listing.form.is_none(),
         }),
-        Err(fault) if fault.kind() == ErrorKind::OutOfMemory => Err(WordsFault::OutOfMemory),
-        Err(fault) => Err(WordsFault::NoList(Cause::of(&fault))),
+        Err(fault) if fault.kind() == ErrorKind::OutOfMemory => Err(ProgramWordsFault::OutOfMemory),
+        Err(fault) => Err(ProgramWordsFault::NoList(Cause::of(&fault))),
     }
 }
 
@@ -135,7 +135,7 @@ fn svstat_of(
     rt: &HostRuntime,
     form: Option<&'static str>,
     services: Vec<String>,
-) -> Result<Vec<String>, WordsFault> {
+) -> Result<Vec<String>, ProgramWordsFault> {
     let mut words = Vec::new(rt.alloc());
     push_word(&mut words, String::from_str(rt.alloc(), "svstat")?)?;
     if let Some(form) = form {
@@ -148,15 +148,15 @@ fn svstat_of(
 }
 
 /// Adds a word to others.
-fn push_word(words: &mut Vec<String>, word: String) -> Result<(), WordsFault> {
+fn push_word(words: &mut Vec<String>, word: String) -> Result<(), ProgramWordsFault> {
     match words.push(word) {
         Ok(()) => Ok(()),
-        Err(_) => Err(WordsFault::OutOfMemory),
+        Err(_) => Err(ProgramWordsFault::OutOfMemory),
     }
 }
 
 /// Does the same if one of them is not text.
-fn words_of_bytes(rt: &HostRuntime) -> Result<Vec<String>, WordsFault> {
+fn words_of_bytes(rt: &HostRuntime) -> Result<Vec<String>, ProgramWordsFault> {
     let mut words: Vec<String> = Vec::new(rt.alloc());
     for place in 1..usize::MAX {
         let Some(bytes) = bytes_at(rt, place)? else {
@@ -185,7 +185,11 @@ fn bytes_at(rt: &HostRuntime, place: usize) -> Result<Option<Vec<u8>>, AllocErro
 }
 
 /// Returns the next word, from those before it and from its bytes.
-fn word_of(rt: &HostRuntime, before: &[String], bytes: Vec<u8>) -> Result<String, WordsFault> {
+fn word_of(
+    rt: &HostRuntime,
+    before: &[String],
+    bytes: Vec<u8>,
+) -> Result<String, ProgramWordsFault> {
     let bytes = match String::from_utf8(bytes) {
         Ok(text) => return Ok(text),
         Err(fault) => fault.into_bytes(),
@@ -197,7 +201,7 @@ fn word_of(rt: &HostRuntime, before: &[String], bytes: Vec<u8>) -> Result<String
     if names_services(command) && !bytes.starts_with(b"-") {
         return Ok(missing_name(rt.alloc(), &bytes)?);
     }
-    Err(WordsFault::NoText(refusal(rt.alloc(), command, &bytes)?))
+    Err(ProgramWordsFault::NoText(refusal(rt.alloc(), command, &bytes)?))
 }
 
 /// Returns whether the words of a command, except for its options, name services.

@@ -15,8 +15,8 @@ ghost use Rattle.tai_status.specs.Words.{texts};
 
 use crate::orders::{Order, order_of};
 use crate::service_set::{
-    Begun, ListFault, Listing, Remaining, RoundOut, ServiceSet, Shortage, Unfinished, Unlogged,
-    Unmade, Untaken,
+    Beginning, ListFault, Listing, Remaining, RoundOut, ServiceSet, Shortage, Unfinished, Unlogged,
+    UnmadePart, Untaken,
 };
 use crate::words::read_words;
 use arrayvec::ArrayString;
@@ -97,7 +97,7 @@ fn not_made(fault: PartFault) -> ArrayString<64>
 }
 
 /// Reports parts that were not made, one line for each.
-fn report_unmade<E: Write>(all: &[Unmade], faults: &mut Output<E>)
+fn report_unmade<E: Write>(all: &[UnmadePart], faults: &mut Output<E>)
     ensures { ReportsAll (map unmade_report all.now) faults.old faults.new }
 {
     for unmade in all {
@@ -446,15 +446,15 @@ fn report_locked<E: Write>(folder: &str, faults: &mut Output<E>)
 }
 
 /// Reports if svscan itself is not served in a folder.
-fn report_begun<E: Write>(folder: &str, begun: Begun, faults: &mut Output<E>)
+fn report_begun<E: Write>(folder: &str, begun: Beginning, faults: &mut Output<E>)
     ensures { ReportsAll (lines_of_begun folder.now begun) faults.old faults.new }
 {
     match begun {
-        Begun::Served => {}
-        Begun::Unserved(cause) => report_unserved(cause, faults),
-        Begun::Refused(cause) => report_unserved(cause, faults),
-        Begun::Unread(cause) => report_unread(folder, cause, faults),
-        Begun::Locked => report_locked(folder, faults),
+        Beginning::Served => {}
+        Beginning::Unserved(cause) => report_unserved(cause, faults),
+        Beginning::Refused(cause) => report_unserved(cause, faults),
+        Beginning::Unread(cause) => report_unread(folder, cause, faults),
+        Beginning::Locked => report_locked(folder, faults),
     }
 }
 
@@ -475,8 +475,10 @@ fn begin_and_run<R: Wait, K: ServiceSet, E: Write>(
     let begun = services.begin(folder);
     report_begun(folder, begun, faults);
     match begun {
-        Begun::Locked | Begun::Unread(_) | Begun::Refused(_) => TROUBLE,
-        Begun::Served | Begun::Unserved(_) => take_rounds(rt, services, folder, rounds, faults),
+        Beginning::Locked | Beginning::Unread(_) | Beginning::Refused(_) => TROUBLE,
+        Beginning::Served | Beginning::Unserved(_) => take_rounds(
+            rt, services, folder, rounds, faults,
+        ),
     }
 }
 

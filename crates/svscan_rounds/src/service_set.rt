@@ -41,7 +41,7 @@ pub struct Untaken {
 
 /// A part that a round could not make, or that runs and could not get its sockets.
 #[derive(Drop)]
-pub struct Unmade {
+pub struct UnmadePart {
     /// The part: the name of its service, for a logger followed by `/log`.
     pub name: Name,
     /// The reason.
@@ -58,12 +58,12 @@ pub struct RoundOut {
     /// The names that get no service because there are too many.
     pub refused: Names,
     /// The parts that could not be made, and those that run without their sockets.
-    pub unmade: Vec<Unmade>,
+    pub unmade: Vec<UnmadePart>,
 }
 
 /// Whether svscan itself is served in a folder.
 #[derive(Clone, Copy, Debug, PartialEq, Eq)]
-pub enum Begun {
+pub enum Beginning {
     /// It is served, and no other svscan will be.
     Served,
     /// It is not served, because the system refused something that its own folder needs.
@@ -135,7 +135,7 @@ pub trait ServiceSet {
 
     /// Called before the first round. Serves svscan itself in the folder, or says why not. Nothing is changed there if
     /// another svscan is served there.
-    fn begin(&mut self, folder: &str) -> Begun
+    fn begin(&mut self, folder: &str) -> Beginning
         requires { ready self.old }
         ensures ready { ready self.new }
         ensures began { Extended (calls self.old) (calls self.new) (Began folder.now result ∷ []) };

@@ -1,5 +1,5 @@
 use Rattle.std.proofs.Common.{List, ℕ, map, ◌++◌, subst}
-use Rattle.svscan_rounds.specs.declared.service_set.Unmade.{Unmade}
+use Rattle.svscan_rounds.specs.declared.service_set.UnmadePart.{UnmadePart}
 use Rattle.svscan_rounds.specs.declared.service_set.Untaken.{Untaken}
 use Rattle.svscan_rounds.specs.Rounds.{
   name_report,
@@ -27,7 +27,7 @@ returns g c =
     c.report_names.ensures in
     let third = subst (λ (l : List (List ℕ)). ReportsAll (names too_many l) two three) c.as_slice-2.ensures
     c.report_names-2.ensures in
-    let fourth = subst (λ (l : List Unmade). ReportsAll (map unmade_report l) three four) c.deref-2.ensures.value
+    let fourth = subst (λ (l : List UnmadePart). ReportsAll (map unmade_report l) three four) c.deref-2.ensures.value
     c.report_unmade.ensures in
     let last = map unmade_report out.unmade.items in
     reports-then (map untaken_report out.untaken.items) (names unable_to_trace out.untraced

@@ -1,7 +1,7 @@
 use Rattle.std.proofs.Common.{rules, ◌≡◌, ◌+◌, ◌<◌, ℕ, List, [], ◌∷◌, ◌++◌, map, take, length, ap, sym, subst, ◌∙◌}
 use Rattle.std.proofs.lemmas.List.{take_more, map-append}
 use Rattle.tai_status.specs.Counted.{Reports}
-use Rattle.svscan_rounds.specs.declared.service_set.Unmade.{Unmade}
+use Rattle.svscan_rounds.specs.declared.service_set.UnmadePart.{UnmadePart}
 use Rattle.svscan_rounds.specs.Rounds.{name_report, not_made, unmade_report, ReportsAll}
 use Rattle.svscan_rounds.proofs.Reporting.{reports-then, reports-one}
 use Rattle.svscan_rounds.proofs.rounds.report_unmade.Goals as goal
@@ -22,7 +22,7 @@ loop-unmade-preserved g c =
     subst (λ (t : List ℕ). Reports middle new (name_report t item.name)) what
     (subst (λ (n : List ℕ). Reports middle new (name_report text n)) name c.report_parts.ensures.reported) in
     let is : take (i + 1) all ≡ take i all ++ item ∷ [] = take_more all i item within
-    ∙ ap (λ (u : Unmade). take i all ++ u ∷ []) (sym c.unmade-item.is) in
+    ∙ ap (λ (u : UnmadePart). take i all ++ u ∷ []) (sym c.unmade-item.is) in
     let lines : map unmade_report (take (i + 1) all) ≡ map unmade_report (take i all) ++ unmade_report item ∷ [] =
     ap (map unmade_report) is ∙ map-append unmade_report (take i all) (item ∷ []) in
     subst (λ (l : List (List ℕ)). ReportsAll l old new) (sym lines)
