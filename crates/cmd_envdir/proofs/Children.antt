@@ -1,6 +1,6 @@
 -- The child of `envdir`: what a command says of variables, faults that come from no file, and names in byte order.
 use Rattle.std.proofs.Common.{◌≡◌, ℕ, suc, ◌+◌, ◌<◌, ◌||◌, Bool, true, false, List, [], ◌∷◌, drop, drop-cons, length}
-use Rattle.std.proofs.Common.{Option, Some, None, refl, sym, ap, ◌∙◌, inl, inr, arith, subst, String}
+use Rattle.std.proofs.Common.{Option, Some, None, refl, sym, ap, ◌∙◌, arith, subst, String}
 use Rattle.std.proofs.lemmas.List.{length-map, get_or-map}
 use Rattle.std.specs.Prelude.{◌≢◌, bytes_eq, option_map, find, get_or, map, string_bytes, string_cmp, IsSorted}
 use Rattle.std.specs.Prelude.{if◌then◌else◌, Result, Err, MatchOption, IsOkUnless, IsErrOf}
@@ -14,7 +14,7 @@ use Rattle.env_title.specs.declared.fault.EnvFault.TheVariants as why
 use Rattle.env_title.proofs.Faulty.{never_memory}
 use Rattle.cmd_envdir.specs.declared.fault.EnvdirFault.{EnvdirFault}
 use Rattle.cmd_envdir.specs.declared.fault.EnvdirFault.TheVariants as fault
-use Rattle.cmd_envdir.specs.Child.{said_of, AreInByteOrder, IsBeforeStart, IsOfStart}
+use Rattle.cmd_envdir.specs.Child.{said_of, AreInByteOrder}
 use Rattle.cmd_envdir.specs.Ends.{starved, IsFirstFault}
 use Rattle.cmd_envdir.specs.Sayings.{said_after_files, said_after_set}
 
@@ -155,15 +155,6 @@ pub starved_first : (files : List File) (reported : EnvdirFault) → reported �
 starved_first files reported is =
     subst (λ (w : EnvdirFault). IsFirstFault w files) (sym is) (starved_at files (first_fault files) refl)
 
-starved_by : (o : Option EnvFault) → IsBeforeStart (starved o)
-starved_by None = tt
-starved_by (Some (why.NameHasEquals place)) = tt
-starved_by (Some (why.NotText place)) = tt
-starved_by (Some why.OutOfMemory) = tt
-
-pub starved_before : (reported : EnvdirFault) (o : Option EnvFault) → reported ≡ starved o → IsBeforeStart reported
-starved_before reported o is = subst (λ (w : EnvdirFault). IsBeforeStart w) (sym is) (starved_by o)
-
 -- Memory is reported as lacking only if no file has a fault.
 pub wanted : {T : Type 0} (files : List File) (r : Result T EnvFault)
     → MatchOption (first_fault files) (IsOkUnless r why.OutOfMemory) (λ f. IsErrOf r f) → r ≡ Err why.OutOfMemory
@@ -176,14 +167,6 @@ wanted {T} files r refuses is =
           let same : why.OutOfMemory ≡ f = cc (subst (λ (q : Result T EnvFault). IsErrOf q f) is h) in
           absurd (never_memory files (bad ∙ ap {B = Option EnvFault} (λ (w : EnvFault). Some w) (sym same)))
     ] refl refuses
-
--- a fault of a start comes first if the files have none
-pub start_first : (files : List File) (reported : EnvdirFault) → IsOfStart reported → first_fault files ≡ None
-    → IsFirstFault reported files
-start_first files fault.OutOfMemory of_start good = good
-start_first files (fault.NotRun cause) of_start good = good
-start_first files (fault.NameHasEquals place) of_start good = absurd of_start
-start_first files (fault.NotText place) of_start good = absurd of_start
 
 -- Names
 

@@ -1,16 +1,9 @@
 -- Names that are listed one by one.
-use Rattle.std.proofs.Common.{◌≡◌, ℕ, Bool, true, false, List, [], ◌∷◌, ◌++◌, map, sym, ap, ◌∙◌}
+use Rattle.std.proofs.Common.{◌≡◌, ℕ, List, [], ◌∷◌, ◌++◌, map, sym, ap, ◌∙◌}
 use Rattle.std.proofs.lemmas.List.{map-append}
 use Rattle.std.proofs.lemmas.List.Elements.{filter-append}
-use Rattle.std.specs.Prelude.{if◌then◌else◌}
 use Rattle.std.specs.List.{filter}
 use Rattle.cmd_envdir.specs.Listing.{is_visible}
-
-pub one-visible : (name : List ℕ) → is_visible name ≡ true → filter is_visible (name ∷ []) ≡ name ∷ []
-one-visible name shows = ap (λ (b : Bool). if b then name ∷ [] else []) shows
-
-pub none-visible : (name : List ℕ) → is_visible name ≡ false → filter is_visible (name ∷ []) ≡ []
-none-visible name hides = ap (λ (b : Bool). if b then name ∷ [] else []) hides
 
 -- the names of entries, and of one more
 pub listed-more : {E : Type 0} (name_of : E → List ℕ) (entries : List E) (entry : E) (name : List ℕ)

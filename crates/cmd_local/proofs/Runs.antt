@@ -142,10 +142,6 @@ unflushed_text {o} {m} {n} {pending} {left} {text} none puts front =
     let all = Emits-front [] puts (subst (λ (u : List ℕ). AppendsFront m n u) (sym (append-nil left)) front) in
     subst (λ (u : List ℕ). AppendsFront o n u) (ap (λ (u : List ℕ). u ++ (text ++ [])) none ∙ append-nil text) all
 
-pub unput_text : {o m : Option (List ℕ)} {pending text : List ℕ} → pending ≡ [] → AppendsFront o m (pending ++ text)
-    → AppendsFront o m text
-unput_text {o} {m} {pending} {text} none front = subst (λ (u : List ℕ). AppendsFront o m (u ++ text)) none front
-
 pub flushed : {ahead : ℤ → ℤ} {a b : Bool} {o n : Device} (m : Device) {xs held pending left : List ℕ} → pending ≡ []
     → Passes ahead a xs b held o.bytes m.bytes pending left
     → Wrote m n left → Moves ahead a xs b held o n

@@ -4,13 +4,11 @@ use Rattle.std.proofs.Common.{Some, None, refl, sym, ap, ◌∙◌, arith, subst
 use Rattle.std.specs.Prelude.{IfSome, IsSome, MatchOption, unwrap_or, take, Result, Ok, Err, OnOk, OnErr}
 use Rattle.std.specs.Option.{option_map}
 use Rattle.std.proofs.lemmas.Slice.Eq.{bytes_eq-Decides}
-use Rattle.std.proofs.lemmas.List.{length-append}
-use Rattle.tai_status.specs.Label.{Tai64n}
-use Rattle.mlog_files.specs.Files.{Old, Files, Step, Finish, Remove, files_after, append_steps, old_name, with_old}
+use Rattle.mlog_files.specs.Files.{Old, Files, files_after, append_steps, with_old}
 use Rattle.mlog_files.specs.Store.{Reaches}
-use Rattle.cmd_multilog.specs.Names.{old_names, with_name}
+use Rattle.cmd_multilog.specs.Names.{with_name}
 use Rattle.cmd_multilog.specs.Folder.{Folder, Changes, Locks, Opens, Extends, Syncs, Renames, without, Removes, Begins}
-use Rattle.cmd_multilog.specs.Folder.{files_in, files_of, IsKept, HasLength, HasNames, StaysAt}
+use Rattle.cmd_multilog.specs.Folder.{files_in, files_of, IsKept}
 use Rattle.cmd_multilog.proofs.Naming.{names-with_old}
 
 -- the files of a folder with this current file
@@ -59,18 +57,7 @@ removed name a = record {
       without name a.olds;
 }
 
-abbrev locked_of : Folder → Folder
-locked_of a = record { path = a.path; locked = true; current = a.current; synced = a.synced; olds = a.olds }
-
 -- Files
-
-pub Reaches-same : (files : Option Files) → Reaches files files []
-Reaches-same None = tt
-Reaches-same (Some files) = refl
-
-Reaches-gone : (files : Option Files) (steps : List Step) → Reaches files None steps
-Reaches-gone None steps = tt
-Reaches-gone (Some files) steps = tt
 
 appended_files : (bytes : List ℕ) (files : Files)
     → files_after (append_steps bytes) files ≡ record { current = files.current ++ bytes; olds = files.olds }
@@ -94,13 +81,6 @@ extends_files (Some a) (Some b) piece h =
           (sym (appended_files piece (record { current = bytes; olds = a.olds })))
     ] h
 
-pub synced_files : (a b : Option Folder) → Changes a b Syncs → Reaches (files_of a) (files_of b) []
-synced_files None None h = tt
-synced_files None (Some b) h = absurd h
-synced_files (Some a) None h = absurd h
-synced_files (Some a) (Some b) h =
-    subst (λ (f : Folder). Reaches (files_in a) (files_in f) []) (sym h) (Reaches-same (files_in a))
-
 renamed_gone : (a b : Folder) (name : List ℕ) → Renames name a b → b.current ≡ None
 renamed_gone a b name h =
     elim (a.current) as (λ cur. MatchOption cur ⊥ (λ bytes. b ≡ renamed name a bytes) → b.current ≡ None) [
@@ -108,109 +88,9 @@ renamed_gone a b name h =
       | Some bytes ↦ λ e. ap (λ (f : Folder). f.current) e
     ] (h.1)
 
--- a finish without a new current file
-pub renamed_files : (a b c : Option Folder) (name : List ℕ) → Changes a b Syncs → Changes b c (Renames name)
-    → Reaches (files_of a) (files_of c) []
-renamed_files None None None name h k = tt
-renamed_files None None (Some c) name h k = absurd k
-renamed_files None (Some b) c name h k = absurd h
-renamed_files (Some a) None c name h k = absurd h
-renamed_files (Some a) (Some b) None name h k = absurd k
-renamed_files (Some a) (Some b) (Some c) name h k =
-    subst (λ (cur : Option (List ℕ)). Reaches (files_in a) (files_with c.olds cur) []) (sym (renamed_gone b c name k))
-    (Reaches-gone (files_in a) [])
-
--- a finish
-pub finished_files : (a b c d : Option Folder) (label : Tai64n) → Changes a b Syncs
-    → Changes b c (Renames (old_name label)) → Changes c d Opens
-    → Reaches (files_of a) (files_of d) (Finish label ∷ [])
-finished_files None None None None label h k l = tt
-finished_files None None None (Some d) label h k l = absurd l
-finished_files None None (Some c) d label h k l = absurd k
-finished_files None (Some b) c d label h k l = absurd h
-finished_files (Some a) None c d label h k l = absurd h
-finished_files (Some a) (Some b) None d label h k l = absurd k
-finished_files (Some a) (Some b) (Some c) None label h k l = absurd l
-finished_files (Some a) (Some b) (Some c) (Some d) label h k l =
-    let name = old_name label in
-    elim (a.current) as (λ cur. MatchOption cur ⊥ (λ bytes. c ≡ renamed name (synced a) bytes)
-    → Reaches (files_with a.olds cur) (files_of (Some d)) (Finish label ∷ [])) [
-      | None ↦ λ never. absurd never
-      | Some bytes ↦ λ e. subst
-          (λ (f : Folder). Reaches (files_with a.olds (Some bytes)) (files_in f) (Finish label ∷ []))
-          (sym (l ∙ ap opened e)) refl
-    ] (subst (λ (f : Folder). MatchOption f.current ⊥ (λ bytes. c ≡ renamed name f bytes)) h (k.1))
-
 -- Paths
 
-pub stays-same : (a b : Option Folder) → b ≡ a → StaysAt a b
-stays-same None None h = tt
-stays-same None (Some b) h = cc h
-stays-same (Some a) None h = cc h
-stays-same (Some a) (Some b) h =
-    ap (λ (f : Option Folder). elim f as (λ _. List ℕ) [ None ↦ [] | Some folder ↦ folder.path ]) h
-
-pub stays-then : (a b c : Option Folder) → StaysAt a b → StaysAt b c → StaysAt a c
-stays-then None None None h k = tt
-stays-then None None (Some c) h k = absurd k
-stays-then None (Some b) c h k = absurd h
-stays-then (Some a) None c h k = absurd h
-stays-then (Some a) (Some b) None h k = absurd k
-stays-then (Some a) (Some b) (Some c) h k = k ∙ h
-
-pub stays-changed : (change : Folder → Folder → Type 0) (a b : Option Folder)
-    → ((f g : Folder) → change f g → g.path ≡ f.path)
-    → Changes a b change → StaysAt a b
-stays-changed change None None keeps h = tt
-stays-changed change None (Some b) keeps h = absurd h
-stays-changed change (Some a) None keeps h = absurd h
-stays-changed change (Some a) (Some b) keeps h = keeps a b h
-
-pub stays-synced : (a b : Option Folder) → Changes a b Syncs → StaysAt a b
-stays-synced a b h = stays-changed Syncs a b (λ f g e. ap (λ (x : Folder). x.path) e) h
-
-pub stays-opened : (a b : Option Folder) → Changes a b Opens → StaysAt a b
-stays-opened a b h = stays-changed Opens a b (λ f g e. ap (λ (x : Folder). x.path) e) h
-
-pub stays-removed : (a b : Option Folder) (name : List ℕ) → Changes a b (Removes name) → StaysAt a b
-stays-removed a b name h = stays-changed (Removes name) a b (λ f g e. ap (λ (x : Folder). x.path) e) h
-
-extends_path : (piece : List ℕ) (f g : Folder) → Extends piece f g → g.path ≡ f.path
-extends_path piece f g h =
-    elim (f.current) as (λ cur. MatchOption cur ⊥ (λ bytes. g ≡ extended piece f bytes) → g.path ≡ f.path) [
-      | None ↦ λ never. absurd never
-      | Some bytes ↦ λ e. ap (λ (x : Folder). x.path) e
-    ] h
-
-renames_path : (name : List ℕ) (f g : Folder) → Renames name f g → g.path ≡ f.path
-renames_path name f g h =
-    elim (f.current) as (λ cur. MatchOption cur ⊥ (λ bytes. g ≡ renamed name f bytes) → g.path ≡ f.path) [
-      | None ↦ λ never. absurd never
-      | Some bytes ↦ λ e. ap (λ (x : Folder). x.path) e
-    ] (h.1)
-
-pub stays-extended : (a b : Option Folder) (piece : List ℕ) → Changes a b (Extends piece) → StaysAt a b
-stays-extended a b piece h = stays-changed (Extends piece) a b (extends_path piece) h
-
-pub stays-renamed : (a b : Option Folder) (name : List ℕ) → Changes a b (Renames name) → StaysAt a b
-stays-renamed a b name h = stays-changed (Renames name) a b (renames_path name) h
-
 -- What is kept of a folder
-
-pub kept-extended : (a b : Option Folder) (piece : List ℕ) (names : List (List ℕ)) (len : ℕ)
-    → Changes a b (Extends piece)
-    → IsKept a names len → IsKept b names (len + length piece)
-kept-extended None None piece names len h kept = tt
-kept-extended None (Some b) piece names len h kept = absurd h
-kept-extended (Some a) None piece names len h kept = absurd h
-kept-extended (Some a) (Some b) piece names len h kept =
-    elim (a.current) as (λ cur. MatchOption cur ⊥ (λ bytes. b ≡ extended piece a bytes)
-    → IfSome cur (λ bytes. len ≡ length bytes)
-    → IsKept (Some b) names (len + length piece)) [
-      | None ↦ λ never _. absurd never
-      | Some bytes ↦ λ e is. subst (λ (f : Folder). IsKept (Some f) names (len + length piece)) (sym e)
-          (kept.0, kept.1, ap (λ (n : ℕ). n + length piece) is ∙ sym (length-append bytes piece))
-    ] h (kept.2)
 
 pub kept-synced : (a b : Option Folder) (names : List (List ℕ)) (len : ℕ) → Changes a b Syncs → IsKept a names len
     → IsKept b names len
@@ -249,17 +129,6 @@ kept-begun (Some a) (Some b) (Some c) name names h k kept =
     subst (λ (f : Folder). IsKept (Some f) names 0) (sym k)
     (kept.0, kept.1, ap (λ (cur : Option (List ℕ)). length (unwrap_or cur [])) (sym gone))
 
-pub kept-opened : (a b c : Option Folder) (names : List (List ℕ)) (len : ℕ) → Changes a b Locks → Changes b c Opens
-    → HasLength c len → HasNames c names
-    → IsKept c (old_names names) len
-kept-opened None None None names len h k l n = tt
-kept-opened None None (Some c) names len h k l n = absurd k
-kept-opened None (Some b) c names len h k l n = absurd h
-kept-opened (Some a) None c names len h k l n = absurd h
-kept-opened (Some a) (Some b) None names len h k l n = absurd k
-kept-opened (Some a) (Some b) (Some c) names len h k l n =
-    (ap (λ (f : Folder). f.locked) k ∙ ap (λ (f : Folder). f.locked) h, n, l)
-
 pub begun : (a b c : Option Folder) → Changes a b Locks → Changes b c Opens → Changes a c Begins
 begun None None None h k = tt
 begun None None (Some c) h k = absurd k
@@ -297,35 +166,6 @@ kept-removed (Some a) (Some b) first rest len h kept =
       kept.2,
     )
 
-pub removed_files : (a b : Option Folder) (first : List ℕ) (rest : List (List ℕ)) (len : ℕ)
-    → Changes a b (Removes first) → IsKept a (first ∷ rest) len
-    → Reaches (files_of a) (files_of b) (Remove ∷ [])
-removed_files None None first rest len h kept = tt
-removed_files None (Some b) first rest len h kept = absurd h
-removed_files (Some a) None first rest len h kept = absurd h
-removed_files (Some a) (Some b) first rest len h kept =
-    let is = removed_olds a.olds first rest (kept.1) in
-    subst (λ (f : Folder). Reaches (files_in a) (files_in f) (Remove ∷ [])) (sym h)
-    (elim (a.current) as (λ cur.
-    Reaches (files_with a.olds cur) (files_with (without first a.olds) cur) (Remove ∷ [])) [
-      | None ↦ tt
-      | Some bytes ↦ ap (λ (t : List Old). record { current = bytes; olds = t }) is
-    ])
-
--- there is none
-pub none_removed : (a : Option Folder) (len : ℕ) → IsKept a [] len → Reaches (files_of a) (files_of a) (Remove ∷ [])
-none_removed None len kept = tt
-none_removed (Some a) len kept =
-    let none : a.olds ≡ drop 1 a.olds =
-    elim (a.olds) as (λ olds. [] ≡ map (λ (o : Old). o.name) olds → olds ≡ drop 1 olds) [
-      | [] ↦ λ _. refl
-      | old ∷ olds ↦ λ never. cc never
-    ] (kept.1) in
-    elim (a.current) as (λ cur. Reaches (files_with a.olds cur) (files_with a.olds cur) (Remove ∷ [])) [
-      | None ↦ tt
-      | Some bytes ↦ ap (λ (t : List Old). record { current = bytes; olds = t }) none
-    ]
-
 -- the same, if the first name was read and removed at its place
 pub kept-removed-first : (a b : Option Folder) (first : List ℕ) (names : List (List ℕ)) (len : ℕ)
     → Changes a b (Removes first) → 0 < length names
@@ -333,13 +173,6 @@ pub kept-removed-first : (a b : Option Folder) (first : List ℕ) (names : List 
 kept-removed-first a b first [] len h some is kept = absurd (omega (arith, some))
 kept-removed-first a b first (name ∷ names) len h some is kept =
     kept-removed a b first names len h (subst (λ (n : List ℕ). IsKept a (n ∷ names) len) (sym is) kept)
-
-pub removed_first_files : (a b : Option Folder) (first : List ℕ) (names : List (List ℕ)) (len : ℕ)
-    → Changes a b (Removes first) → 0 < length names
-    → first ≡ get_or names 0 first → IsKept a names len → Reaches (files_of a) (files_of b) (Remove ∷ [])
-removed_first_files a b first [] len h some is kept = absurd (omega (arith, some))
-removed_first_files a b first (name ∷ names) len h some is kept =
-    removed_files a b first names len h (subst (λ (n : List ℕ). IsKept a (n ∷ names) len) (sym is) kept)
 
 -- a new current file is begun, or there is none
 pub kept-begun-or : {X E : Type 0} (r : Result X E) (a b c : Option Folder) (name : List ℕ) (names : List (List ℕ))

@@ -1,7 +1,6 @@
 -- Names in byte order, and the place of one more.
 use Rattle.std.proofs.Common.{◌≡◌, ℕ, suc, zero, ◌+◌, ◌<◌, ◌≤◌, Bool, true, false, List, [], ◌∷◌, ◌++◌, length, take}
 use Rattle.std.proofs.Common.{drop, get_or, refl, sym, ap, ◌∙◌, arith, subst}
-use Rattle.std.proofs.Math.Seq.{drop-cons, drop-length}
 use Rattle.std.proofs.lemmas.Cmp.{nat_list_cmp_total}
 use Rattle.std.proofs.lemmas.List.Sorted.{ranks_by, sorted_far}
 use Rattle.std.specs.Cmp.{IsStrictWeakOrder}
@@ -97,17 +96,6 @@ behind name (first ∷ names) (suc at) d within below =
 -- it comes before those from a place on
 abbrev pub IsBefore : List ℕ → List (List ℕ) → ℕ → Type 0
 IsBefore name names place = with_name name (drop place names) ≡ name ∷ drop place names
-
-pub before_none : (name : List ℕ) (names : List (List ℕ)) → IsBefore name names (length names)
-before_none name names = rw (drop-length names) refl
-
-pub before_one : (name : List ℕ) (names : List (List ℕ)) (place : ℕ) (here : List ℕ) → place < length names
-    → here ≡ get_or names place here → is_below here name ≡ false → IsBefore name names place
-before_one name names place here within is not =
-    let x = get_or names place here in
-    let above : is_below x name ≡ false = ap (λ (t : List ℕ). is_below t name) (sym is) ∙ not in
-    let step : with_name name (x ∷ drop (suc place) names) ≡ name ∷ x ∷ drop (suc place) names = rw above refl in
-    subst (λ (t : List (List ℕ)). with_name name t ≡ name ∷ t) (sym (drop-cons names place here within)) step
 
 pub place_behind : (name : List ℕ) (names : List (List ℕ)) (place last : ℕ) (here : List ℕ) → AreInOrder names
     → place ≤ length names

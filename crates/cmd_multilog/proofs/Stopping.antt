@@ -9,7 +9,7 @@ use Rattle.tai_status.proofs.Known.{Keeps-same}
 use Rattle.tai_status.specs.Counted.{IsRead}
 use Rattle.mlog_core.specs.Feed.{IsNext, OpensNext}
 use Rattle.cmd_multilog.specs.declared.stop.LoggerEvent.TheVariants as heard
-use Rattle.cmd_multilog.specs.Stop.{HeardWord, Coming, Listening, Changes, Hears, HearsWord, Reads, IsOver, is_in_line}
+use Rattle.cmd_multilog.specs.Stop.{HeardWord, Coming, Listening, Changes, Hears, Reads, IsOver, is_in_line}
 use Rattle.cmd_multilog.specs.Stop.{to_newline, behind_newline, rest_of_line, next_line, rest_behind, given, part_of}
 use Rattle.cmd_multilog.specs.Stop.{parts_behind, unread, all_behind, left_in, behind_in, feed_of, IsLinesOf}
 use Rattle.cmd_multilog.specs.Stop.{before_second, StopsAtALine, LosesNothing}
@@ -49,17 +49,6 @@ reads_given was old new bs reads =
     ∙ given_behind was bs new.before old.words
     ∙ ap (λ (w : List HeardWord). bs ++ (new.before ++ rest_behind (is_in_line (is_in_line was bs) new.before) w))
     (sym reads.1)
-
--- one byte of the line in hand
-line_one : (b : ℕ) (ys : List ℕ) (newline : Bool)
-    → b ∷ (if newline then [] else to_newline ys) ≡ b ∷ rest_of_line (not newline) ys
-line_one b ys true = refl
-line_one b ys false = refl
-
-line_goes : (bs ys : List ℕ) → length bs ≤ 1 → rest_of_line true (bs ++ ys) ≡ bs ++ rest_of_line (is_in_line true bs) ys
-line_goes [] ys one = refl
-line_goes (b ∷ []) ys one = line_one b ys (b == 10)
-line_goes (b ∷ c ∷ bs) ys one = absurd (omega (arith, one))
 
 next_one : (ys : List ℕ) (newline : Bool) → (if newline then ys else behind_newline ys) ≡ next_line (not newline) ys
 next_one ys true = refl
@@ -104,21 +93,6 @@ behind_of stopped rotates in_line coming =
       cause = None;
     })
 
-pub word_left : (rotates in_line : Bool) (old new : Option Coming) → Changes old new (HearsWord rotates)
-    → left_of true in_line new ≡ left_of false in_line old
-word_left rotates in_line None None hears = refl
-word_left rotates in_line None (Some new) hears = absurd hears
-word_left rotates in_line (Some old) None hears = absurd hears
-word_left rotates in_line (Some old) (Some new) hears = ap (λ (c : Coming). Some (given in_line c)) (sym hears)
-
-pub word_behind : (rotates in_line : Bool) (old new : Option Coming) → Changes old new (HearsWord rotates)
-    → behind_of true rotates in_line new ≡ behind_of false false in_line old
-word_behind rotates in_line None None hears = refl
-word_behind rotates in_line None (Some new) hears = absurd hears
-word_behind rotates in_line (Some old) None hears = absurd hears
-word_behind rotates in_line (Some old) (Some new) hears =
-    ap (λ (c : Coming). Some (parts_behind (is_in_line in_line c.before) c.words)) (sym hears)
-
 pub no_word : (old new : Option Coming) → Changes old new (Hears heard.Input) → new ≡ old
 no_word None None hears = refl
 no_word None (Some new) hears = absurd hears
@@ -139,12 +113,6 @@ goes_on : (was : Bool) (old new : Option Coming) (bs : List ℕ) → Changes old
 goes_on was None new bs reads = tt
 goes_on was (Some old) None bs reads = absurd reads
 goes_on was (Some old) (Some new) bs reads = reads_given was old new bs reads
-
-goes_to_line : (old new : Option Coming) (bs : List ℕ) → length bs ≤ 1 → Changes old new (Reads bs)
-    → Consumes (left_of true true old) (left_of true (is_in_line true bs) new) bs
-goes_to_line None new bs one reads = tt
-goes_to_line (Some old) None bs one reads = absurd reads
-goes_to_line (Some old) (Some new) bs one reads = ap (rest_of_line true) reads.0 ∙ line_goes bs new.before one
 
 behind_goes_on : (was : Bool) (old new : Option Coming) (bs : List ℕ) → Changes old new (Reads bs)
     → behind_of false false (is_in_line was bs) new ≡ behind_of false false was old
@@ -198,33 +166,6 @@ reads_on left old new (Ok count) into kept going same reads line over err =
       λ none room. is_over new.stopped new.in_line new.coming (over none room),
     )
 reads_on left old new (Err e) into kept going same reads line over err =
-    subst (λ (l : Option (List ℕ)). Keeps l (left_in new)) kept
-    (subst (λ (l : Listening). Keeps (left_in old) (left_in l)) (sym err) (Keeps-same (left_in old)))
-
--- the result of a read of at most one byte after a word, if a line is in hand
-pub reads_line : {E : Type 0} (left : Option (List ℕ)) (old new : Listening) (r : Result ℕ E) (into : List ℕ)
-    → left_in old ≡ left → old.stopped ≡ true → old.in_line ≡ true → new.stopped ≡ old.stopped
-    → length into ≤ 1
-    → IfOk r (λ count. Changes old.coming new.coming (Reads (take count into)))
-    → IfOk r (λ count. new.in_line ≡ is_in_line old.in_line (take count into))
-    → IfOk r (λ count. count ≡ 0 → 0 < length into → IsOver new.coming)
-    → OnErr r (new ≡ record old { failures = new.failures })
-    → ReadConsumes left (left_in new) r into
-reads_line left old new (Ok count) into kept stopped begun same one reads line over err =
-    let bs = take count into in
-    let gone : Consumes (left_of true true old.coming) (left_of true new.in_line new.coming) bs =
-    subst (λ (l : Bool). Consumes (left_of true true old.coming) (left_of true l new.coming) bs)
-    (sym (line ∙ ap (λ (l : Bool). is_in_line l bs) begun))
-    (goes_to_line old.coming new.coming bs (short count into one) reads) in
-    let there : Consumes (left_in old) (left_in new) bs =
-    subst (λ (s : Bool). Consumes (left_of s old.in_line old.coming) (left_in new) bs) (sym stopped)
-    (subst (λ (l : Bool). Consumes (left_of true l old.coming) (left_in new) bs) (sym begun)
-    (subst (λ (s : Bool). Consumes (left_of true true old.coming) (left_of s new.in_line new.coming) bs)
-    (sym (same ∙ stopped)) gone)) in (
-      subst (λ (l : Option (List ℕ)). Consumes l (left_in new) bs) kept there,
-      λ none room. is_over new.stopped new.in_line new.coming (over none room),
-    )
-reads_line left old new (Err e) into kept stopped begun same one reads line over err =
     subst (λ (l : Option (List ℕ)). Keeps l (left_in new)) kept
     (subst (λ (l : Listening). Keeps (left_in old) (left_in l)) (sym err) (Keeps-same (left_in old)))
 

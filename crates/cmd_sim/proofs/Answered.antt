@@ -203,15 +203,6 @@ step_missed refused (step.Scan fault) cause is = ap refused_step cause ∙ unnam
     unnamed None is = refl
 step_missed refused step.OutOfMemory cause is = ap refused_step cause
 
-pub right_so : {A : Type 0} (suite : SuiteState) (subject : Result (SuiteEvent A) EventFault) (event : SuiteEvent A)
-    → subject ≡ Ok event → refused_step (refusal suite event) ≡ None → IsRight suite subject
-right_so {A} suite subject event is good =
-    subst (λ (r : Result (SuiteEvent A) EventFault). IsRight suite r) (sym is) (right event good)
-  where
-    right : (event : SuiteEvent A) → refused_step (refusal suite event) ≡ None → IsRight suite (Ok event)
-    right (Scan rows label) good = tt
-    right (At part event) good = good
-
 right_plainly : {A : Type 0} (suite : SuiteState) (subject : Result (SuiteEvent A) EventFault) → IsRight suite subject
     → IsRight suite (plainly subject)
 right_plainly suite (Err fault) right = absurd right
@@ -268,15 +259,6 @@ suite_missed {A} past line suite now stands is right = held past (subst (λ (t :
     held (OfSuite subject) stands =
         right_any A subject (fields line)
         (subst (λ (s : SuiteState). IsRight s (suite_event_from {A = A} (fields line))) stands right)
-
-pub none_missed : {A : Type 0} (past : Past) (line : List ℕ) (now : Subject A) → Stands past now → now ≡ code.Nothing
-    → MayWantMemory Nothing line → MayWantMemory past line
-none_missed {A} past line now stands is lacks = held past (subst (λ (t : Subject A). Stands past t) is stands)
-  where
-    held : (past : Past) → Stands {A = A} past code.Nothing → MayWantMemory past line
-    held Nothing stands = lacks
-    held (Service h) stands = absurd stands
-    held (OfSuite subject) stands = absurd stands
 
 -- Memory can be lacking only at lines of suites.
 pub lacks_suite : (past : Past) (line : List ℕ) → MayWantMemory past line → is_suite_line past line ≡ true

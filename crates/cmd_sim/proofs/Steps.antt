@@ -330,18 +330,6 @@ more_input None now bytes input c e = absurd (cc e)
 more_input (Some xs) None bytes input c e = absurd c
 more_input (Some xs) (Some ys) bytes input c e = let same : input ≡ xs = cc e in (ys, same ∙ c)
 
--- All lines were answered, and the answers written.
-pub SoFar-end : {before now held holds : Option (List ℕ)} {pending : List ℕ} {B : Type 0} {subject : Subject B}
-    {count : ℕ}
-    → SoFar before now held holds pending [] subject count → pending ≡ [] → IsAtEnd now → AnswersWhole before held holds
-SoFar-end {before} {now} {held} {holds} {pending} s none end = λ input is.
-    let whole : input ≡ s.done ++ [] = whole_input before now (s.done ++ pending) input s.read end is
-    ∙ ap (λ (t : List ℕ). s.done ++ t) none in (
-      ap refused_in whole ∙ SoFar-refused_in s [],
-      subst (λ (t : List ℕ). Appends held holds t)
-          (sym (ap printed_for whole ∙ SoFar-printed s [] ∙ append-nil (printed s.texts))) (Appends-emitted s.text),
-    )
-
 -- The last line, which has no newline, was answered and written.
 pub SoFar-last : {before now held holds holds2 : Option (List ℕ)} {pending waiting waiting2 : List ℕ} {B : Type 0}
     {subject subject2 : Subject B} {count : ℕ}
@@ -611,13 +599,6 @@ some_bytes (x ∷ xs) none = omega arith
 
 pub not_nothing : {b : Bool} (xs : List ℕ) → b ≡ true → (b ≡ false) ↔ (xs ≡ []) → 0 < length xs
 not_nothing {b} xs is none = some_bytes xs (λ e. let off : true ≡ false = sym is ∙ none.1 e in cc off)
-
-pub end_of_nothing : {before now held holds : Option (List ℕ)} {pending waiting : List ℕ} {B : Type 0}
-    {subject : Subject B}
-    {count : ℕ}
-    → SoFar before now held holds pending waiting subject count → waiting ≡ [] → pending ≡ [] → IsAtEnd now
-    → AnswersWhole before held holds
-end_of_nothing s none nothing end = SoFar-end (SoFar-empty s none) nothing end
 
 pub rest_refused : {before now held holds : Option (List ℕ)} {pending waiting text : List ℕ} {B : Type 0}
     {subject : Subject B} {count number : ℕ}

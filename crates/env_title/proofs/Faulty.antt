@@ -1,7 +1,6 @@
 -- The first fault among files, file by file.
 use Rattle.std.proofs.Common.{◌≡◌, ℕ, ◌+◌, Bool, true, false, List, [], ◌∷◌, refl, sym, ap, ◌∙◌}
-use Rattle.std.specs.Prelude.{Option, Some, None, Result, Ok, Err, IsOk, MatchOption, slice_get, if◌then◌else◌}
-use Rattle.std.specs.Result.{result_err}
+use Rattle.std.specs.Prelude.{Option, Some, None, Result, Err, IsOk, MatchOption, slice_get, if◌then◌else◌}
 use Rattle.std.specs.Str.{is_utf8}
 use Rattle.env_title.specs.Files.{File, is_hidden, file_value}
 use Rattle.env_title.specs.Faults.{has_equals, fault_at, faults_from, first_fault}
@@ -26,13 +25,6 @@ pub reported : (o : Option EnvFault) (r : Result (Unit {0}) EnvFault) (fault : E
     → MatchOption o (IsOk r) (λ f. r ≡ Err f) → r ≡ Err fault → o ≡ Some fault
 reported None r fault good is = let never = rw is at good in cc
 reported (Some f) r fault bad is = cc
-
--- the error that is returned is the fault
-pub reported_err : (o : Option EnvFault) (r : Result (Unit {0}) EnvFault) → MatchOption o (IsOk r) (λ f. r ≡ Err f)
-    → result_err r ≡ o
-reported_err None (Ok x) h = refl
-reported_err None (Err f) h = cc h
-reported_err (Some f) r h = rw h refl
 
 -- No file's fault is a lack of memory.
 never_at : (place : ℕ) (file : File) (b c d : Bool) → (if b then None else (if c then Some (NameHasEquals place)
@@ -64,16 +56,4 @@ none_parts place file files none =
     → (o ≡ None) × (slice_get (faults_from (place + 1) files) 0 ≡ None)) [
       | None ↦ λ good. let rest = rw good at none in (refl, rest)
       | Some fault ↦ λ bad. let first : Some fault ≡ None = rw bad at none in cc
-    ] refl
-
-pub good_is_text : (place : ℕ) (file : File) → fault_at place file ≡ None → is_hidden file ≡ false
-    → is_utf8 (file_value file.bytes) ≡ true
-good_is_text place file good visible =
-    elim (has_equals file.name) as (λ b. has_equals file.name ≡ b → is_utf8 (file_value file.bytes) ≡ true) [
-      | true ↦ λ named. let e = rw (visible, named) at good in cc
-      | false ↦ λ named.
-          elim (is_utf8 (file_value file.bytes)) as (λ b. is_utf8 (file_value file.bytes) ≡ b → b ≡ true) [
-            | true ↦ λ _. refl
-            | false ↦ λ text. let e = rw (visible, named, text) at good in cc
-          ] refl
     ] refl

@@ -1,11 +1,10 @@
 -- The last items of a list that grows.
-use Rattle.std.proofs.Common.{◌≡◌, ℕ, suc, take, append_assoc, ◌+◌, ◌-◌, ◌<◌, ◌≤◌, List, [], ◌∷◌, ◌++◌, length, drop}
+use Rattle.std.proofs.Common.{◌≡◌, ℕ, suc, take, append_assoc, ◌+◌, ◌-◌, ◌<◌, ◌≤◌, List, ◌++◌, length, drop}
 use Rattle.std.proofs.Common.{sym, ◌∙◌, ap, arith, length-append, length-drop}
-use Rattle.std.proofs.lemmas.List.{drop-append-le, drop-drop, take_rest, replicate-append-replicate, length-replicate}
-use Rattle.std.specs.Prelude.{replicate}
+use Rattle.std.proofs.lemmas.List.{drop-append-le, drop-drop, take_rest}
 use Rattle.circular_buffer.specs.Buffer.{keep_last}
 use Rattle.memchr.specs.Find.{Nowhere, Passes, is_byte}
-use Rattle.env_title.specs.Title.{TitleParts, dot, without_nul}
+use Rattle.env_title.specs.Title.{TitleParts, without_nul}
 use Rattle.env_title.proofs.First.{nul-none, nul-some}
 
 abbrev pub title_of : List ℕ → ℕ → TitleParts
@@ -23,12 +22,6 @@ keep_last-append n xs ys =
 
 pub keep_last-short : (n : ℕ) (xs : List ℕ) → length xs ≤ n → keep_last n xs ≡ xs
 keep_last-short n xs short = let none : length xs - n ≡ 0 = omega arith in ap (λ k. drop k xs) none
-
--- one more dot, if there is room
-pub dots-more : (n k : ℕ) → k < n → keep_last n (replicate k dot ++ dot ∷ []) ≡ replicate (k + 1) dot
-dots-more n k room =
-    let more = replicate-append-replicate k 1 dot in
-    ap (keep_last n) more ∙ keep_last-short n (replicate (k + 1) dot) (omega (arith, length-replicate (k + 1) dot))
 
 pub length-keep_last : (n : ℕ) (xs : List ℕ) → n ≤ length xs → length (keep_last n xs) ≡ n
 length-keep_last n xs long = omega (arith, length-drop (length xs - n) xs)

@@ -21,10 +21,6 @@ HasDistinctNames env = IsDistinct (λ one other. bytes_eq one.name other.name) e
 abbrev pub value_of : List Binding → List ℕ → Option (List ℕ)
 value_of env name = option_map (λ variable. variable.value) (find (is_named name) env)
 
--- whether there is a variable with this name
-abbrev pub has_name : List Binding → List ℕ → Bool
-has_name env name = list_any (is_named name) env
-
 -- the variables without the one with this name
 abbrev pub without : List Binding → List ℕ → List Binding
 without env name = filter (λ variable. not (is_named name variable)) env

@@ -158,17 +158,6 @@ after_first : (path : List ℕ) (label : Tai64n)
     (log_text (one_log path) 0 (label ∷ []) first_part)) empty ≡ first_files
 after_first path label = refl
 
-after_rotation : (path : List ℕ) (reading : Tai64n)
-    → files_after (rotation (slice_get (log_plans (one_log path)) 0) reading (Some first_files)) first_files
-    ≡ rotated_files reading
-after_rotation path reading = refl
-
-after_second : (path : List ℕ) (reading first second : Tai64n)
-    → files_after (planned_steps (slice_get (log_plans (one_log path)) 0) (found (rotated_files reading))
-    (log_text (one_log path) 0 (first ∷ second ∷ []) second_part)) (rotated_files reading)
-    ≡ record { current = second_part; olds = (rotated_files reading).olds }
-after_second path reading first second = refl
-
 -- the files of the log, and the readings of the clock, after the turn and the second part
 whole : (path : List ℕ) (old last new : Play) (final : Files) (given : List Tai64n)
     → old.feed.device.bytes ≡ Some first_part → old.store.visible.files 0 ≡ Some empty → old.readings ≡ Some []

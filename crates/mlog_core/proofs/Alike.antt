@@ -55,10 +55,6 @@ no_items : {X : Type 0} (xs : List X) → length xs ≡ 0 → xs ≡ []
 no_items [] e = refl
 no_items (x ∷ xs) e = absurd (omega (arith, e))
 
-no_bytes_of : (text : List Sent) (bytes : List ℕ) → bytes_of text ≡ bytes → bytes ≡ [] → text ≡ []
-no_bytes_of [] bytes e none = refl
-no_bytes_of (s ∷ text) bytes e none = absurd cc
-
 -- If there are no lines yet, they have every reach.
 reach_of_none : (script : List Act) (was reach : Reach) (a b : Option (List Tai64n)) (bytes : List ℕ) → bytes ≡ []
     → AreAlike script was a b bytes 0

@@ -1,6 +1,6 @@
 -- How a part of an input ends.
-use Rattle.std.proofs.Common.{◌≡◌, List, Some, Result, Ok, Err, refl, sym, subst, inl, inr}
-use Rattle.tai_status.specs.Counted.{Fails, IsRead, Rose, Works}
+use Rattle.std.proofs.Common.{◌≡◌, List, Some, Ok, refl, sym, subst, inr}
+use Rattle.tai_status.specs.Counted.{IsRead, Works}
 use Rattle.mlog_script.specs.Script.{Act}
 use Rattle.mlog_files.specs.declared.tail.LogFault.{LogFault}
 use Rattle.mlog_files.specs.declared.tail.LogFault.TheVariants as log_fault
@@ -15,16 +15,6 @@ pub ran_part : (counts : Counts) (script : List Act) (old new : Play)
     → Works old.feed.device new.feed.device → new.feed.behind ≡ old.feed.behind → RunsPart script old new
 ran_part counts script old new ends read works behind =
     record { counts = counts; runs = ends.done; read = read; works = works; behind = behind }
-
-pub run_stopped : (why : RunFault) (script : List Act) (old new : Play)
-    → RunEnds (Err why) script (world_at old) (world_at new)
-    → (◌≡◌ {A = Result Counts RunFault} (Err why) (Err fault.Read) → Fails old.feed.device new.feed.device)
-    → (◌≡◌ {A = Result Counts RunFault} (Err why) (Err fault.Store) → Rose old.store.failures new.store.failures)
-    → EndsBy (Some why) script old new
-run_stopped fault.Read script old new ends fails rose = (ends.read refl, fails refl)
-run_stopped fault.Store script old new ends fails rose = inl (ends.store refl, rose refl)
-run_stopped fault.LabelsSpent script old new ends fails rose = inl (ends.spent refl)
-run_stopped fault.OutOfMemory script old new ends fails rose = ends.memory refl
 
 pub rotation_stopped : (why : LogFault) (visible : RunFault) (script : List Act) (old new : Play)
     → (why ≡ log_fault.Store → visible ≡ fault.Store)

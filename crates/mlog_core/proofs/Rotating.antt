@@ -1,93 +1,23 @@
 -- Logs that are rotated, one after another.
 use Rattle.std.proofs.Common.{◌≡◌, ◌≢◌, ℕ, ◌+◌, ◌<◌, ◌≤◌, ◌==◌, nat_lt, Bool, true, false, List, [], ◌∷◌, ◌++◌, length}
-use Rattle.std.proofs.Common.{take, count_by, cond, Option, Some, None, refl, sym, subst, ap, ◌∙◌, arith}
+use Rattle.std.proofs.Common.{take, count_by, cond, Option, None, refl, sym, subst, ap, ◌∙◌, arith}
 use Rattle.std.proofs.lemmas.List.{take_all}
 use Rattle.std.proofs.lemmas.Option.{slice_get_past}
 use Rattle.std.specs.List.{filter_map, cons_option}
 use Rattle.std.proofs.lemmas.List.Sums.{sum_by-append}
-use Rattle.std.specs.Prelude.{slice_get, IfSome}
+use Rattle.std.specs.Prelude.{slice_get}
 use Rattle.tai_status.specs.Label.{Tai64n}
 use Rattle.tai_status.specs.Extended.{Extended}
 use Rattle.mlog_script.specs.Placed.{placed_behind}
 use Rattle.mlog_script.specs.Script.{Act, Log, Plan, plan_behind, log_plans, is_log}
 use Rattle.mlog_files.specs.Files.{Files, Step}
-use Rattle.mlog_files.specs.Going.{Standing, rotate_steps, rotated}
-use Rattle.mlog_files.specs.Store.{StoreState, Stays, Reaches, Does, DoesFront}
-use Rattle.mlog_files.specs.Tails.{keep_of, standing, found, StopsOn}
-use Rattle.mlog_files.specs.declared.tail.Tail.{Tail}
+use Rattle.mlog_files.specs.Store.{StoreState, Stays, Reaches, DoesFront}
+use Rattle.mlog_files.specs.Tails.{StopsOn}
 use Rattle.mlog_files.specs.declared.tail.LogFault.{LogFault}
 use Rattle.mlog_files.proofs.Doing.{Stays-then, rose_since}
 use Rattle.mlog_files.proofs.Putting.{same_files}
 use Rattle.mlog_core.specs.Run.{ReachesFront}
 use Rattle.mlog_core.specs.Rotate.{rotation, stands_rotated, Rotates, RotatesUpTo}
-
--- One log
-
--- Files that are shown reach the same files by the same steps. Nothing is said of files that are not shown.
-reaches_so : (files now : Option Files) (f : List Step → List Step) (a b : List Step) → IfSome files (λ _. a ≡ b)
-    → Reaches files now (f a) → Reaches files now (f b)
-reaches_so None None f a b same k = tt
-reaches_so None (Some now) f a b same k = absurd k
-reaches_so (Some old) now f a b same k = subst (λ (s : List Step). Reaches (Some old) now (f s)) same k
-
-steps_found : (files : Option Files) (t : Tail) (plan : Plan) (r : Tai64n) → IfSome files (λ f. standing t ≡ found f)
-    → keep_of t ≡ plan.keep
-    → IfSome files (λ _. rotate_steps (keep_of t) (standing t) r ≡ rotation (Some plan) r files)
-steps_found None t plan r is keep = tt
-steps_found (Some f) t plan r is keep =
-    ap (λ (s : Standing). rotate_steps (keep_of t) s r) is ∙ ap (λ (k : ℕ). rotate_steps k (found f) r) keep
-
-stands_found : (files : Option Files) (t : Tail) (plan : Plan) (r : Tai64n) → IfSome files (λ f. standing t ≡ found f)
-    → keep_of t ≡ plan.keep
-    → rotated (keep_of t) (standing t) r ≡ None → stands_rotated (Some plan) r files ≡ None
-stands_found None t plan r is keep none = refl
-stands_found (Some f) t plan r is keep none =
-    sym (ap (λ (s : Standing). rotated (keep_of t) s r) is ∙ ap (λ (k : ℕ). rotated k (found f) r) keep) ∙ none
-
-does_so : (o q : StoreState) (log : ℕ) (f : List Step → List Step) (a b : List Step)
-    → IfSome (o.visible.files log) (λ _. a ≡ b)
-    → Does o q log (f a) → Does o q log (f b)
-does_so o q log f a b same d = record {
-  here = reaches_so (o.visible.files log) (q.visible.files log) f a b same d.here;
-  others = d.others;
-  statuses = d.statuses;
-  alerts = d.alerts;
-  stays = d.stays;
-}
-
-pub rotated_as_found : (o q : StoreState) (log : ℕ) (t : Tail) (plan : Plan) (r : Tai64n)
-    → IfSome (o.visible.files log) (λ f. standing t ≡ found f)
-    → keep_of t ≡ plan.keep → Does o q log (rotate_steps (keep_of t) (standing t) r)
-    → Does o q log (rotation (Some plan) r (o.visible.files log))
-rotated_as_found o q log t plan r is keep d =
-    does_so o q log (λ (s : List Step). s) (rotate_steps (keep_of t) (standing t) r)
-    (rotation (Some plan) r (o.visible.files log))
-    (steps_found (o.visible.files log) t plan r is keep) d
-
-pub stopped_as_found : (o q : StoreState) (log : ℕ) (t : Tail) (plan : Plan) (r : Tai64n) (why : LogFault)
-    → IfSome (o.visible.files log) (λ f. standing t ≡ found f)
-    → keep_of t ≡ plan.keep
-    → StopsOn o q log (rotate_steps (keep_of t) (standing t) r) (rotated (keep_of t) (standing t) r) why
-    → StopsOn o q log (rotation (Some plan) r (o.visible.files log))
-    (stands_rotated (Some plan) r (o.visible.files log)) why
-stopped_as_found o q log t plan r why is keep s =
-    let same = steps_found (o.visible.files log) t plan r is keep in
-    let a = rotate_steps (keep_of t) (standing t) r in
-    let b = rotation (Some plan) r (o.visible.files log) in record {
-      front = record { count = s.front.count; front = does_so o q log (take s.front.count) a b same s.front.front };
-      store = s.store;
-      nowhere = λ e. stands_found (o.visible.files log) t plan r is keep (s.nowhere e);
-      spent = λ e. does_so o q log (λ (x : List Step). x) a b same (s.spent e);
-    }
-
-pub does_nothing : (o : StoreState) (log : ℕ) → Does o o log []
-does_nothing o log = record {
-  here = same_files (o.visible.files log);
-  others = λ other apart. refl;
-  statuses = refl;
-  alerts = refl;
-  stays = record { logs = refl; status_files = refl; asked = refl; steady = omega arith };
-}
 
 -- The logs below a number
 
@@ -100,45 +30,8 @@ pub record RotatedBelow (script : List Act) (reading : Tai64n) (old new : StoreS
   pub alerts : new.visible.alerts ≡ old.visible.alerts
   pub stays : Stays old new
 
-pub none_rotated : (script : List Act) (reading : Tai64n) (o : StoreState) → RotatedBelow script reading o o 0
-none_rotated script reading o = record {
-  below = λ log low. absurd (omega (arith, low));
-  beyond = λ log high. refl;
-  statuses = refl;
-  alerts = refl;
-  stays = record { logs = refl; status_files = refl; asked = refl; steady = omega arith };
-}
-
 not_same : (i j : ℕ) → (i == j) ≡ false → i ≢ j
 not_same i j e = λ is. grind (arith, e, is)
-
-below_next : (script : List Act) (r : Tai64n) (o p q : StoreState) (log n : ℕ) (b : Bool) → (n == log) ≡ b
-    → RotatedBelow script r o p log
-    → Does p q log (rotation (slice_get (log_plans script) log) r (p.visible.files log)) → n < log + 1
-    → Reaches (o.visible.files n) (q.visible.files n) (rotation (slice_get (log_plans script) n) r (o.visible.files n))
-below_next script r o p q log n true e up d low =
-    let same : n ≡ log = grind (arith, e) in
-    subst (λ (m : ℕ). Reaches (o.visible.files m) (q.visible.files m)
-    (rotation (slice_get (log_plans script) m) r (o.visible.files m))) (sym same)
-    (subst (λ (f : Option Files). Reaches f (q.visible.files log) (rotation (slice_get (log_plans script) log) r f))
-    (up.beyond log (omega arith)) d.here)
-below_next script r o p q log n false e up d low =
-    let apart = not_same n log e in
-    let less : n < log = grind (arith, e, low) in
-    subst (λ (f : Option Files).
-    Reaches (o.visible.files n) f (rotation (slice_get (log_plans script) n) r (o.visible.files n)))
-    (sym (d.others n apart)) (up.below n less)
-
-pub one_more_rotated : (script : List Act) (r : Tai64n) (o p q : StoreState) (log : ℕ) → RotatedBelow script r o p log
-    → Does p q log (rotation (slice_get (log_plans script) log) r (p.visible.files log))
-    → RotatedBelow script r o q (log + 1)
-one_more_rotated script r o p q log up d = record {
-  below = λ n low. below_next script r o p q log n (n == log) refl up d low;
-  beyond = λ n high. d.others n (λ is. absurd (omega (arith, high, is))) ∙ up.beyond n (omega (arith, high));
-  statuses = d.statuses ∙ up.statuses;
-  alerts = d.alerts ∙ up.alerts;
-  stays = Stays-then up.stays d.stays;
-}
 
 -- All of them
 

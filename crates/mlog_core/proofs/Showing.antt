@@ -65,11 +65,6 @@ written_by None files (Some t) o = absurd o
 written_by (Some plan) files None o = absurd o
 written_by (Some plan) files (Some t) o = o.waiting
 
-pub opened_written : (script : List Act) (visible : Visible) (tails : List Tail) → AreOpened script visible tails
-    → IsWritten tails
-opened_written script visible tails opened =
-    λ log. written_by (slice_get (log_plans script) log) (visible.files log) (slice_get tails log) (opened log)
-
 -- One log
 
 steps_planned : (plan : Plan) (files : Option Files) (t : Tail) (text : List Sent) → IsOpened plan files t

@@ -22,9 +22,6 @@ full_more size n s t rest =
     let one : nat_lt 0 (suc (length rest)) ≡ true = grind arith in
     rw (sum, both, one) refl
 
-full_one : (size n : ℕ) (s : Sent) → is_full size n (s ∷ []) ≡ fills size (n + 1) (s.byte == 10)
-full_one size n s = refl
-
 not_empty : {A : Type 0} (size n : ℕ) → is_full size n [] ≡ true → A
 not_empty size n is = let e : false ≡ true = is in cc
 

@@ -124,23 +124,6 @@ Does-more {o} {q} {log} {a} b d = record {
 appended : (a b : List ℕ) → append_steps (a ++ b) ≡ append_steps a ++ append_steps b
 appended a b = map-append (λ (byte : ℕ). Append byte) a b
 
--- Nothing is done yet, and the bytes wait.
-pub Goes-held : {o : StoreState} {log : ℕ} (waited bytes : List ℕ) → Does o o log []
-    → Goes o o log waited (waited ++ bytes) (append_steps bytes)
-Goes-held waited bytes d = record { done = []; does = d; whole = appended waited bytes }
-
--- The bytes that waited are appended, and the new bytes wait.
-pub Goes-out : {o q : StoreState} {log : ℕ} (waited now bytes : List ℕ) → Does o q log (append_steps waited)
-    → now ≡ bytes
-    → Goes o q log waited now (append_steps bytes)
-Goes-out waited now bytes d e =
-    record {
-      done = append_steps waited;
-      does = d;
-      whole =
-          ap (λ (t : List ℕ). append_steps waited ++ append_steps t) e;
-    }
-
 -- Nothing waits any more.
 pub Goes-through : {o q : StoreState} {log : ℕ} (waited now : List ℕ) (steps : List Step) → now ≡ []
     → Does o q log (append_steps waited ++ steps)
@@ -173,12 +156,6 @@ pub Goes-front : {o p q : StoreState} {log : ℕ} {a b : List ℕ} {xs : List St
     → DoesFront o q log (append_steps a ++ (xs ++ ys))
 Goes-front {o} {p} {q} {log} {a} {b} {xs} ys g h =
     subst (λ (t : List Step). DoesFront o q log t) (joined ys g) (Does-front (append_steps b ++ ys) g.does h)
-
-pub Goes-fails : {o p q : StoreState} {log : ℕ} {a b : List ℕ} {xs : List Step} (ys : List Step) → Goes o p log a b xs
-    → Fails p q log (append_steps b ++ ys)
-    → Fails o q log (append_steps a ++ (xs ++ ys))
-Goes-fails {o} {p} {q} {log} {a} {b} {xs} ys g h =
-    subst (λ (t : List Step). Fails o q log t) (joined ys g) (Fails-then (append_steps b ++ ys) g.does h)
 
 pub Goes-does : {o p q : StoreState} {log : ℕ} {a b : List ℕ} {xs : List Step} (ys : List Step) → Goes o p log a b xs
     → Does p q log (append_steps b ++ ys)

@@ -299,20 +299,6 @@ pub same_files : (files : Option Files) → Reaches files files []
 same_files None = tt
 same_files (Some files) = refl
 
--- Nothing was put yet.
-pub put_nothing : (o : StoreState) (log : ℕ) (waited : List ℕ) → Goes o o log waited waited []
-put_nothing o log waited = record {
-  done = [];
-  does = record {
-    here = same_files (o.visible.files log);
-    others = λ other apart. refl;
-    statuses = refl;
-    alerts = refl;
-    stays = record { logs = refl; status_files = refl; asked = refl; steady = omega arith };
-  };
-  whole = sym (append-nil (append_steps waited));
-}
-
 pub if_ok_both : {T E : Type 0} (r : Result T E) (P Q R : T → Type 0) → ((x : T) → P x → Q x → R x) → IfOk r P
     → IfOk r Q → IfOk r R
 if_ok_both (Ok x) P Q R all p q = all x p q

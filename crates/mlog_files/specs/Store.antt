@@ -20,16 +20,6 @@ pub record StoreState : Type 0 where
   pub failures : ℕ
   pub visible : Visible
 
--- a store that shows nothing, with these numbers of logs, status files and failed calls
-abbrev pub shows_nothing : ℕ → ℕ → ℕ → StoreState
-shows_nothing logs status_files failures = record {
-  logs = logs;
-  status_files = status_files;
-  asked = None;
-  failures = failures;
-  visible = record { files = λ _. None; statuses = λ _. None; alerts = None };
-}
-
 -- The numbers of logs and status files are as before, no folder was asked for, and no failed call is forgotten.
 pub record Stays (old new : StoreState) : Type 0 where
   pub logs : new.logs ≡ old.logs

@@ -6,26 +6,14 @@ use Rattle.std.proofs.lemmas.List.{take_more, take_all, take_min, take-append-dr
 use Rattle.std.proofs.Math.Seq.{take-append-add}
 use Rattle.std.proofs.lemmas.List.Concat.{flat_map-append}
 use Rattle.std.specs.List.{flat_map}
-use Rattle.tai_status.proofs.Known.{Appends-then, Appends-further, AppendsFront-more}
+use Rattle.tai_status.proofs.Known.{Appends-further, AppendsFront-more}
 use Rattle.mlog_script.specs.Selection.{flag_at, alert, padded}
 use Rattle.mlog_files.specs.Store.{StoreState, Alerts, AlertsPart, FailsToAlert, Replaces, FailsToReplace, WasGiven}
 use Rattle.mlog_files.proofs.Doing.{Stays-then, rose_since}
 use Rattle.mlog_line.specs.Given.{alerts_for}
 use Rattle.mlog_line.specs.Several.{AlertsFront, Replaced, ReplacedSome, given_to}
-use Rattle.mlog_line.proofs.Taking.{Appends-front, Appends-none, WasGiven-then, WasGiven-none, GivenFront-of}
-use Rattle.mlog_line.proofs.Taking.{Stays-same}
+use Rattle.mlog_line.proofs.Taking.{Appends-front, WasGiven-then, WasGiven-none, GivenFront-of}
 use Rattle.mlog_line.proofs.Ones.{flag_next, later_flags}
-
-pub Alerts-none : (a : StoreState) → Alerts a a []
-Alerts-none a = record { here = Appends-none a.visible.alerts; files = refl; statuses = refl; stays = Stays-same a }
-
-pub Alerts-then : (a b c : StoreState) (xs ys : List ℕ) → Alerts a b xs → Alerts b c ys → Alerts a c (xs ++ ys)
-Alerts-then a b c xs ys k l = record {
-  here = Appends-then a.visible.alerts b.visible.alerts c.visible.alerts xs ys k.here l.here;
-  files = l.files ∙ k.files;
-  statuses = l.statuses ∙ k.statuses;
-  stays = Stays-then k.stays l.stays;
-}
 
 pub Alerts-front : (a b c : StoreState) (xs ys : List ℕ) → Alerts a b xs → AlertsFront b c ys
     → AlertsFront a c (xs ++ ys)
@@ -89,13 +77,6 @@ alerts_next flags k flag front within is =
     ap (flat_map one) (take_more flags k flag within) ∙ flat_map-append one (take k flags) (get_or flags k flag ∷ [])
     ∙ ap (λ (t : List ℕ). flat_map one (take k flags) ++ t) (append-nil (one (get_or flags k flag)) ∙ ap one (sym is))
 
-pub alerted_next : (a b c : StoreState) (flags : List Bool) (k : ℕ) (flag : Bool) (front : List ℕ) → k < length flags
-    → flag ≡ get_or flags k flag
-    → Alerts a b (alerts_for (take k flags) front) → Alerts b c (if flag then alert front else [])
-    → Alerts a c (alerts_for (take (k + 1) flags) front)
-alerted_next a b c flags k flag front within is k' l =
-    subst (λ (t : List ℕ). Alerts a c t) (sym (alerts_next flags k flag front within is)) (Alerts-then a b c _ _ k' l)
-
 pub alerted_no_further : (a b c : StoreState) (flags : List Bool) (k : ℕ) (flag : Bool) (front : List ℕ)
     → k < length flags → flag ≡ get_or flags k flag
     → Alerts a b (alerts_for (take k flags) front) → AlertsFront b c (if flag then alert front else [])
@@ -123,14 +104,6 @@ given_at a b k n contents false e r =
     let apart : n ≢ k = λ is. grind (arith, e, is) in
     rw e (subst (λ (f : Option (List (List ℕ))). WasGiven (a.visible.statuses n) f []) (sym (r.others n apart))
     (WasGiven-none (a.visible.statuses n)))
-
-pub replaced_none : (a : StoreState) (content : List ℕ) → Replaced a a [] content
-replaced_none a content = record {
-  here = λ file. WasGiven-none (a.visible.statuses file);
-  files = refl;
-  alerts = refl;
-  stays = Stays-same a;
-}
 
 pub replaced_next : (a b c : StoreState) (flags : List Bool) (k : ℕ) (flag : Bool) (content : List ℕ) → k < length flags
     → flag ≡ get_or flags k flag → flag ≡ true

@@ -14,7 +14,7 @@ use Rattle.mlog_script.specs.Selection.{Chosen, stamps, shown, chosen, chosen_li
 use Rattle.mlog_script.specs.Selection.{to_file}
 use Rattle.mlog_line.specs.Given.{Given, nothing, joined, of_line, of_front, of_chosen, of_put, so_far, to_logs}
 use Rattle.mlog_line.specs.Outputs.{Outputs, Takes, Stops, SameGiven, Grows, StopsAt}
-use Rattle.mlog_line.proofs.Growing.{Grows-none, StopsAt-more}
+use Rattle.mlog_line.proofs.Growing.{Grows-none}
 
 shown_by : (b : Bool) (label : Tai64n) (line more : List ℕ)
     → (if b then stamp label ++ (line ++ more) else line ++ more) ≡ (if b then stamp label ++ line else line) ++ more
@@ -29,9 +29,6 @@ shown-append script label line more = shown_by (stamps script) label line more
 -- Later bytes do not change the first ones.
 first_stay : (n : ℕ) (xs ys : List ℕ) → n ≤ length xs → take n (xs ++ ys) ≡ take n xs
 first_stay n xs ys few = take-append-le n xs ys few
-
-take_first : (n k : ℕ) (xs ys : List ℕ) → n ≤ k → k ≤ length xs → take n (xs ++ ys) ≡ take n xs
-take_first n k xs ys less few = first_stay n xs ys (omega (arith, less, few))
 
 -- The outputs at which a line is selected
 
@@ -239,17 +236,6 @@ end_stops o n script label line flags why is k = record {
   whole = line_ends script label line;
   stops = subst (λ (f : List Bool). Stops o n (to_logs f label (10 ∷ [])) why) is k;
 }
-
--- An end that stopped before the decision.
-pub end_undecided : (o n : Outputs) (script : List Act) (label : Tai64n) (line front : List ℕ) (why : LogFault)
-    → front ≡ shown script label line → length front < 1000
-    → Stops o n (of_chosen script label front) why
-    → StopsAt o n (so_far script label line) (of_line script label line) why
-end_undecided o n script label line front why is few k =
-    StopsAt-more o n (so_far script label line) (of_front script label line)
-    (to_logs (chosen_line script label line).logs label (10 ∷ [])) (of_line script label line) why
-    (decides_stopped o n script label line front line front why is few is (omega (arith, few)) k)
-    (line_ends script label line)
 
 -- What is given for a line that is put whole, with its newline.
 line_is_ended : (script : List Act) (label : Tai64n) (line front : List ℕ) → front ≡ shown script label line

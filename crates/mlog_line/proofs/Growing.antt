@@ -1,13 +1,10 @@
 -- Outputs on their way from one given thing to another.
-use Rattle.std.proofs.Common.{ℕ, List, ◌++◌, refl, sym, ap, ◌∙◌, append_assoc, append-nil}
+use Rattle.std.proofs.Common.{ℕ, List, ◌++◌, sym, ap, ◌∙◌, append_assoc, append-nil}
 use Rattle.tai_status.specs.Lines.{Sent}
 use Rattle.mlog_files.specs.declared.tail.LogFault.{LogFault}
 use Rattle.mlog_line.specs.Given.{Given, nothing, joined}
 use Rattle.mlog_line.specs.Outputs.{Outputs, SameGiven, Grows, StopsAt}
 use Rattle.mlog_line.proofs.Taking.{Takes-then, Takes-none, Stops-then, Stops-more}
-
-pub Same-refl : (x : Given) → SameGiven x x
-Same-refl x = record { logs = λ log. refl; alerts = refl; files = λ file. refl }
 
 pub Same-then : (x y z : Given) → SameGiven x y → SameGiven y z → SameGiven x z
 Same-then x y z s t = record {
@@ -73,13 +70,6 @@ Grows-then a b c x y z g h = record {
 pub Grows-same : (a b : Outputs) (x y z : Given) → Grows a b x y → SameGiven y z → Grows a b x z
 Grows-same a b x y z g s = record { more = g.more; whole = Same-then (joined x g.more) y z g.whole s; takes = g.takes }
 
-pub Grows-from : (a b : Outputs) (w x y : Given) → SameGiven w x → Grows a b x y → Grows a b w y
-Grows-from a b w x y s g = record {
-  more = g.more;
-  whole = Same-then (joined w g.more) (joined x g.more) y (Same-joined w x g.more s) g.whole;
-  takes = g.takes;
-}
-
 pub Grows-behind : (a b : Outputs) (p x y : Given) → Grows a b x y → Grows a b (joined p x) (joined p y)
 Grows-behind a b p x y g = record { more = g.more; whole = behind p x g.more y g.whole; takes = g.takes }
 
@@ -104,14 +94,6 @@ pub StopsAt-same : (a b : Outputs) (x y z : Given) (why : LogFault) → StopsAt 
     → StopsAt a b x z why
 StopsAt-same a b x y z why g s =
     record { more = g.more; whole = Same-then (joined x g.more) y z g.whole s; stops = g.stops }
-
-pub StopsAt-from : (a b : Outputs) (w x y : Given) (why : LogFault) → SameGiven w x → StopsAt a b x y why
-    → StopsAt a b w y why
-StopsAt-from a b w x y why s g = record {
-  more = g.more;
-  whole = Same-then (joined w g.more) (joined x g.more) y (Same-joined w x g.more s) g.whole;
-  stops = g.stops;
-}
 
 pub StopsAt-behind : (a b : Outputs) (p x y : Given) (why : LogFault) → StopsAt a b x y why
     → StopsAt a b (joined p x) (joined p y) why

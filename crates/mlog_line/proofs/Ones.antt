@@ -22,7 +22,7 @@ use Rattle.mlog_line.specs.Outputs.{Takes, IsSpent, Stops, SameGiven}
 use Rattle.mlog_line.specs.LineRouter.{IsWrittenAt, IsWritten, IsWrittenUpTo}
 use Rattle.mlog_line.proofs.Taking.{TakesInAt-none, TakesFrontAt-none, WasGiven-none, GivenFront-none, Appends-none}
 use Rattle.mlog_line.proofs.Taking.{AppendsFront-none}
-use Rattle.mlog_line.proofs.Taking.{Takes-none, Takes-same, Takes-then, Stops-same, Stops-then, Stops-more}
+use Rattle.mlog_line.proofs.Taking.{Takes-same, Takes-then, Stops-same, Stops-then, Stops-more}
 
 pub set_here : {X : Type 0} (xs : List X) (i : ℕ) (y : X) → i < length xs → slice_get (set xs i y) i ≡ Some y
 set_here [] i y within = absurd (omega (arith, within))
@@ -161,14 +161,8 @@ put_stops tails now old new log t label bytes why was s =
     s.front.front.alerts
     (record { count = s.front.count; reaches = s.front.front.here }) s.store s.nowhere
 
-one_nothing : (log : ℕ) → SameGiven nothing (to_one log [])
-one_nothing log = record { logs = λ other. sym (if_none (other == log)); alerts = refl; files = λ file. refl }
-
 nothing_one : (log : ℕ) → SameGiven (to_one log []) nothing
 nothing_one log = record { logs = λ other. if_none (other == log); alerts = refl; files = λ file. refl }
-
-pub put_none : (o : Outputs) (log : ℕ) → Takes o o (to_one log [])
-put_none o log = Takes-same o o nothing (to_one log []) (Takes-none o) (one_nothing log)
 
 -- A flush
 

@@ -1,8 +1,7 @@
 -- Texts that go to all logs.
-use Rattle.std.proofs.Common.{◌≡◌, ℕ, zero, suc, ◌+◌, ◌<◌, ◌≤◌, ◌==◌, nat_lt, if◌then◌else◌, Bool, true, false, List}
-use Rattle.std.proofs.Common.{[], ◌∷◌, ◌++◌, length, take, set, Option, Some, None, refl, sym, subst, ap, ◌∙◌, arith}
-use Rattle.std.proofs.Common.{append-nil, inl, inr}
-use Rattle.std.proofs.lemmas.Bool.{cases_lt}
+use Rattle.std.proofs.Common.{◌≡◌, ℕ, suc, ◌+◌, ◌<◌, ◌≤◌, ◌==◌, nat_lt, if◌then◌else◌, Bool, true, false, List}
+use Rattle.std.proofs.Common.{[], ◌∷◌, ◌++◌, length, take, set, Option, Some, refl, sym, subst, ap, ◌∙◌, arith}
+use Rattle.std.proofs.Common.{append-nil}
 use Rattle.std.specs.Prelude.{slice_get}
 use Rattle.tai_status.specs.Lines.{Sent}
 use Rattle.mlog_files.specs.Files.{Step, Append, append_steps, appends}
@@ -13,11 +12,11 @@ use Rattle.mlog_files.specs.declared.tail.Tail.{Tail}
 use Rattle.mlog_files.specs.declared.tail.LogFault.{LogFault}
 use Rattle.mlog_files.specs.declared.tail.LogFault.TheVariants as fault
 use Rattle.mlog_files.proofs.Goings.{text_in_room}
-use Rattle.mlog_line.specs.Given.{Given, nothing, joined, to_one, to_first, bytes_of}
+use Rattle.mlog_line.specs.Given.{Given, joined, to_one, to_first, bytes_of}
 use Rattle.mlog_line.specs.Outputs.{Outputs, outputs, steps_for, after, Takes, Stops, SameGiven}
-use Rattle.mlog_line.specs.LineRouter.{HasRoomAt, HaveRoom}
+use Rattle.mlog_line.specs.LineRouter.{HasRoomAt}
 use Rattle.mlog_line.proofs.Ones.{set_here, set_elsewhere, one_takes, one_stops}
-use Rattle.mlog_line.proofs.Taking.{Takes-none, Takes-same, Takes-then, Stops-same, Stops-then, Stops-more}
+use Rattle.mlog_line.proofs.Taking.{Takes-same, Takes-then, Stops-same, Stops-then, Stops-more}
 
 -- One log
 
@@ -107,16 +106,6 @@ first_next k text = record {
   files = λ file. refl;
 }
 
-pub first_nothing : (o : Outputs) (text : List Sent) → Takes o o (to_first 0 text)
-first_nothing o text =
-    Takes-same o o nothing (to_first 0 text) (Takes-none o)
-    (record {
-      logs = λ log. (let none : nat_lt log 0 ≡ false = grind arith in rw none refl);
-      alerts = refl;
-      files =
-          λ file. refl;
-    })
-
 pub first_further : (a b c : Outputs) (k : ℕ) (text : List Sent) → Takes a b (to_first k text)
     → Takes b c (to_one k text) → Takes a c (to_first (k + 1) text)
 first_further a b c k text t u =
@@ -152,41 +141,3 @@ first_stopped a b c k count text why few t u =
       alerts = refl;
       files = λ file. refl;
     })
-
--- Room
-
-none_at : (t : Option Tail) → HasRoomAt 0 t
-none_at None = tt
-none_at (Some t) = omega arith
-
-pub room_none : (tails : List Tail) → HaveRoom 0 tails
-room_none tails = λ log. none_at (slice_get tails log)
-
-past_room : (tails : List Tail) (log count : ℕ) → length tails ≤ log → HasRoomAt count (slice_get tails log)
-past_room [] log count past = tt
-past_room (t ∷ tails) zero count past = absurd (omega (arith, past))
-past_room (t ∷ tails) (suc log) count past = past_room tails log count (omega (arith, past))
-
-pub room_all : (tails : List Tail) (index count : ℕ) → ((log : ℕ) → log < index → HasRoomAt count (slice_get tails log))
-    → length tails ≤ index → HaveRoom count tails
-room_all tails index count upto all =
-    λ log. elim (cases_lt log index)
-    [ inl below ↦ upto log below | inr past ↦ past_room tails log count (omega (arith, past, all)) ]
-
-less_at : (t : Option Tail) (a b : ℕ) → b ≤ a → HasRoomAt a t → HasRoomAt b t
-less_at None a b less room = tt
-less_at (Some t) a b less room = omega (arith, less, room)
-
-pub room_less : (tails : List Tail) (a b : ℕ) → b ≤ a → HaveRoom a tails → HaveRoom b tails
-room_less tails a b less room = λ log. less_at (slice_get tails log) a b less (room log)
-
-pub room_next : (tails : List Tail) (index room now : ℕ) (t : Tail) → slice_get tails index ≡ Some t → now ≤ room
-    → now ≤ room_in t
-    → ((log : ℕ) → log < index → HasRoomAt room (slice_get tails log)) → (log : ℕ) → log < index + 1
-    → HasRoomAt now (slice_get tails log)
-room_next tails index room now t is less here before = λ log below. elim (cases_lt log index) [
-  | inl lower ↦ less_at (slice_get tails log) room now less (before log lower)
-  | inr not_lower ↦
-      let same : log ≡ index = omega (arith, below, not_lower) in
-      subst (λ (o : Option Tail). HasRoomAt now o) (sym (ap (λ (n : ℕ). slice_get tails n) same ∙ is)) here
-]

@@ -141,13 +141,6 @@ pub TakesFrontAt-none : (t : Option Tail) (a : Option Files) (xs : List Sent) �
 TakesFrontAt-none None a xs = same_files a
 TakesFrontAt-none (Some t) a xs = record { count = 0; reaches = same_files a }
 
--- What went in is a prefix of itself.
-pub TakesFrontAt-whole : (t u : Option Tail) (a b : Option Files) (xs : List Sent) → TakesInAt t u a b xs
-    → TakesFrontAt t a b xs
-TakesFrontAt-whole t u a b xs k =
-    subst (λ (text : List Sent). TakesFrontAt t a b text) (append-nil xs)
-    (TakesInAt-front t u a b b xs [] k (TakesFrontAt-none u b []))
-
 -- Status files
 
 pub WasGiven-then : (a b c : Option (List (List ℕ))) (xs ys : List (List ℕ)) → WasGiven a b xs → WasGiven b c ys

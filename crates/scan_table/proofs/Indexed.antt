@@ -103,15 +103,6 @@ index-insert names index at name is named searched =
           ];
     }
 
--- an index of no names
-pub index-none : (names : List (List ℕ)) → IsIndex names []
-index-none names =
-    record {
-      within = λ k b. absurd (omega arith);
-      rising = λ j k before b. absurd (omega arith);
-      all = λ place b. absurd (omega arith);
-    }
-
 -- The names of an index of all names are distinct.
 pub index-distinct : (names : List (List ℕ)) (index : List ℕ) → IsIndex names index → length index ≡ length names
     → AllPairs (λ a b. a ≢ b) names

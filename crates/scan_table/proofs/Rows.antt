@@ -190,12 +190,6 @@ order-none [] place end left = refl
 order-none (row ∷ rows) place end left =
     sym (left row (omega arith) ∙ order-last (row ∷ rows) place (get_or (row ∷ rows) (place - 1) row).name end)
 
--- at the first place
-pub order-begins : (rows : List Row) (d : Row) → 0 < length rows
-    → order_fault rows ≡ order_fault_after 1 (get_or rows (1 - 1) d).name (drop 1 rows)
-order-begins [] d some = absurd (omega arith)
-order-begins (row ∷ rows) d some = refl
-
 -- one more place, if the names rise
 pub rising-more : (rows : List Row) (place : ℕ) (before here : Row) (one two : List ℕ) (reported : Ordering) → 0 < place
     → place < length rows →

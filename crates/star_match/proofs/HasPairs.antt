@@ -80,9 +80,6 @@ pub record Noted (places : List Bool) (text rest : List ℕ) : Type 0 where
   pub no_pair : slice_get places NO_PAIR ≡ Some true
   pub len : length places ≡ 513
 
-pub noted_at_last : (places : List Bool) (text : List ℕ) (x : ℕ) → Noted places text (x ∷ []) → Noted places text []
-noted_at_last places text x was = record { noted = λ a b has. was.noted a b has; no_pair = was.no_pair; len = was.len }
-
 place_within : (a b : ℕ) → pair_place a b < NO_PAIR
 place_within a b = mod-lt (a * 32 + b) (omega arith)
 
@@ -100,17 +97,6 @@ noted_next places text x y rest was =
       no_pair = get_set places (pair_place x y) NO_PAIR within was.no_pair;
       len = length-set places (pair_place x y) true ∙ was.len;
     }
-
--- At the end all are noted.
-pub noted_all : (places : List Bool) (text : List ℕ) → Noted places text [] → HasPlaces places text
-noted_all places text all = record {
-  pairs = λ a b has. elim (all.noted a b has) [
-    | inl set ↦ set
-    | inr left ↦ absurd (false≢true left)
-  ];
-  no_pair = all.no_pair;
-  len = all.len;
-}
 
 -- The place of a need is set if the pattern matches.
 pub need_set : (places : List Bool) (text pattern : List ℕ) (place : ℕ) → HasPlaces places text → IsNeed place pattern

@@ -191,9 +191,6 @@ are_rows-more text texts row h = ap (λ (o : Option Row). is_some (onto_rows o (
     onto None = refl
     onto (Some rows) = refl
 
-pub are_rows-none : (text : List ℕ) (texts : List (List ℕ)) → row_of_text text ≡ None → are_rows (text ∷ texts) ≡ false
-are_rows-none text texts h = ap (λ (o : Option Row). is_some (onto_rows o (rows_of_texts texts))) h
-
 pub rows-more : (done : List Row) (text : List ℕ) (texts : List (List ℕ)) (row : Row) → row_of_text text ≡ Some row
     → option_map (λ later. done ++ later) (rows_of_texts (text ∷ texts))
     ≡ option_map (λ later. (done ++ row ∷ []) ++ later) (rows_of_texts texts)

@@ -101,9 +101,6 @@ AreTaken-state p q (event ∷ events) h taken = (
 pub next-taken : (past : History) (event : Event) → takes past event ≡ true → next past event ≡ Then past event
 next-taken past event taken = rw taken refl
 
-pub next-held : (past : History) (event : Event) → takes past event ≡ false → next past event ≡ past
-next-held past event held = rw held refl
-
 -- An event whose reply has asks is taken.
 pub reply_to-took : (past : History) (event : Event) (asks : List Ask) → Took asks ≡ reply_to past event
     → takes past event ≡ true
@@ -201,42 +198,14 @@ pub after-all : (past : History) (events : List Event) → AreTaken past events
     → after past events ≡ followed_by past events
 after-all past events h = after-taken_of past events ∙ ap (followed_by past) (taken_of-all past events h)
 
--- What is taken of two lists, one after the other.
-pub taken_of-append : (past : History) (xs ys : List Event)
-    → taken_of past (xs ++ ys) ≡ taken_of past xs ++ taken_of (after past xs) ys
-taken_of-append past [] ys = refl
-taken_of-append past (x ∷ xs) ys =
-    elim (takes past x) as (λ t. (if t then x ∷ taken_of (Then past x) (xs ++ ys) else taken_of past (xs ++ ys))
-    ≡ (if t then x ∷ taken_of (Then past x) xs else taken_of past xs)
-    ++ taken_of (after (if t then Then past x else past) xs) ys) [
-      | true ↦ ap (λ (events : List Event). x ∷ events) (taken_of-append (Then past x) xs ys)
-      | false ↦ taken_of-append past xs ys
-    ]
-
 -- If supervise is done, it takes nothing more.
 pub takes-gone : (past : History) (event : Event) → phase_of past ≡ phase.Gone → takes past event ≡ false
 takes-gone past event gone = ap (λ (p : Phase). is_taken p (until_of past) event) gone
-
-pub after-gone : (past : History) (events : List Event) → phase_of past ≡ phase.Gone → after past events ≡ past
-after-gone past [] gone = refl
-after-gone past (event ∷ events) gone =
-    ap (λ (p : History). after p events) (next-held past event (takes-gone past event gone))
-    ∙ after-gone past events gone
 
 -- Supervise is not done when it begins.
 pub begin-not_gone : (down : Bool) (label : Tai64n) → phase_of (Begin down label) ≡ phase.Gone → ⊥
 begin-not_gone true label h = cc h
 begin-not_gone false label h = cc h
-
-pub AreTaken-taken_of : (past : History) (events : List Event) → AllByRecursion IsEvent events
-    → AreTaken past (taken_of past events)
-AreTaken-taken_of past [] h = tt
-AreTaken-taken_of past (event ∷ events) h =
-    elim (takes past event) as (λ t. takes past event ≡ t
-    → AreTaken past (if t then event ∷ taken_of (Then past event) events else taken_of past events)) [
-      | true ↦ λ is. (h.0, is, AreTaken-taken_of (Then past event) events h.1)
-      | false ↦ λ is. AreTaken-taken_of past events h.1
-    ] refl
 
 -- events that are taken are events
 pub AreTaken-events : (past : History) (events : List Event) → AreTaken past events → AllByRecursion IsEvent events
@@ -255,12 +224,6 @@ AreTaken-drop past zero events h = h
 AreTaken-drop past (suc n) [] h = tt
 AreTaken-drop past (suc n) (event ∷ events) h = AreTaken-drop (Then past event) n events h.2
 
-pub AreTaken-take : (past : History) (n : ℕ) (events : List Event) → AreTaken past events
-    → AreTaken past (take n events)
-AreTaken-take past zero events h = tt
-AreTaken-take past (suc n) [] h = tt
-AreTaken-take past (suc n) (event ∷ events) h = (h.0, h.1, AreTaken-take (Then past event) n events h.2)
-
 -- What is asked for
 
 pub asks_along-append : (past : History) (xs ys : List Event)
@@ -276,11 +239,3 @@ pub asks_along-more : (past : History) (events : List Event) (event : Event)
 asks_along-more past events event =
     asks_along-append past events (event ∷ [])
     ∙ ap (λ asks. asks_along past events ++ asks) (append-nil (asks_of (followed_by past events) event))
-
-pub asks_along-state : (p q : History) (events : List Event) → state_of p ≡ state_of q
-    → asks_along p events ≡ asks_along q events
-asks_along-state p q [] h = refl
-asks_along-state p q (event ∷ events) h =
-    let first = asks_of-state p q event h in
-    let rest = asks_along-state (Then p event) (Then q event) events (state_of-then p q event h) in
-    rw (first, rest) refl

@@ -5,12 +5,12 @@ use Rattle.std.specs.List.{AllByRecursion}
 use Rattle.sup_core.specs.declared.event.Event.{Event}
 use Rattle.sup_core.specs.State.{State}
 use Rattle.sup_core.specs.History.{Opened, state_of}
-use Rattle.sup_core.specs.Rules.{IsEvent, takes, reply_to}
-use Rattle.sup_core.specs.Runs.{followed_by, AreTaken, taken_of}
-use Rattle.sup_trace.specs.Trace.{Kept, IsTrace, history_of, replay, noted, noted_if_taken, noted_along, new_trace}
+use Rattle.sup_core.specs.Rules.{IsEvent, takes}
+use Rattle.sup_core.specs.Runs.{followed_by, taken_of}
+use Rattle.sup_trace.specs.Trace.{Kept, history_of, replay, noted, noted_if_taken, noted_along, new_trace}
 use Rattle.sup_trace.specs.Trace.{trace_after}
-use Rattle.sup_trace.proofs.Laws.{IsTrace-new, IsTrace-noted, noted-noted, noted_along-taken, replay-noted}
-use Rattle.sup_trace.proofs.Laws.{reply_to-noted, takes-noted}
+use Rattle.sup_trace.proofs.Laws.{IsTrace-new, noted-noted, noted_along-taken, replay-noted}
+use Rattle.sup_trace.proofs.Laws.{takes-noted}
 
 pub trace_after-none : (machine : State) (capacity : ℕ) → trace_after machine capacity [] ≡ new_trace machine capacity
 trace_after-none machine capacity =
@@ -22,9 +22,6 @@ pub replay-trace_after : (machine : State) (capacity : ℕ) (events : List Event
     → replay (trace_after machine capacity events) ≡ state_of (followed_by (Opened machine) events)
 replay-trace_after machine capacity events = replay-noted (new_trace machine capacity) events
 
-pub capacity-noted : (kept : Kept) (events : List Event) → (noted kept events).capacity ≡ kept.capacity
-capacity-noted kept events = refl
-
 pub capacity-noted_if_taken : (kept : Kept) (event : Event) → (noted_if_taken kept event).capacity ≡ kept.capacity
 capacity-noted_if_taken kept event =
     elim (takes (history_of kept) event) as (λ b. (if b then noted kept (event ∷ []) else kept).capacity
@@ -32,10 +29,6 @@ capacity-noted_if_taken kept event =
       | true ↦ refl
       | false ↦ refl
     ]
-
-pub capacity-trace_after : (machine : State) (capacity : ℕ) (events : List Event)
-    → (trace_after machine capacity events).capacity ≡ capacity
-capacity-trace_after machine capacity events = refl
 
 -- more events
 pub trace_after-append : (machine : State) (capacity : ℕ) (xs ys : List Event)
@@ -48,12 +41,6 @@ pub takes-trace_after : (machine : State) (capacity : ℕ) (events : List Event)
 takes-trace_after machine capacity events event =
     takes-noted (new_trace machine capacity) events event
 
-pub reply_to-trace_after : (machine : State) (capacity : ℕ) (events : List Event) (event : Event)
-    → reply_to (history_of (trace_after machine capacity events)) event
-    ≡ reply_to (followed_by (Opened machine) events) event
-reply_to-trace_after machine capacity events event =
-    reply_to-noted (new_trace machine capacity) events event
-
 -- one more event, which is taken
 pub trace_after-more : (machine : State) (capacity : ℕ) (events : List Event) (event : Event)
     → takes (followed_by (Opened machine) events) event ≡ true
@@ -61,11 +48,6 @@ pub trace_after-more : (machine : State) (capacity : ℕ) (events : List Event) 
 trace_after-more machine capacity events event taken =
     let here = takes-trace_after machine capacity events event ∙ taken in
     trace_after-append machine capacity events (event ∷ []) ∙ rw here refl
-
-pub IsTrace-trace_after : (machine : State) (capacity : ℕ) (events : List Event) → 0 < capacity → capacity ≤ 65536
-    → AreTaken (Opened machine) events → IsTrace (trace_after machine capacity events)
-IsTrace-trace_after machine capacity events room limit taken =
-    IsTrace-noted (new_trace machine capacity) events (IsTrace-new machine capacity room limit) taken
 
 -- the same for any events
 pub noted_along-new : (machine : State) (capacity : ℕ) (events : List Event) → 0 < capacity → capacity ≤ 65536

@@ -5,24 +5,19 @@ use Rattle.std.proofs.Common.{append_assoc, if◌then◌else◌, Option, Some, N
 use Rattle.std.proofs.lemmas.List.{append-nil, take-append-drop, drop-drop, drop-append-le, take-append-le}
 use Rattle.std.proofs.Math.Seq.{take-add}
 use Rattle.std.proofs.lemmas.Bool.Decides.{nat_tests}
-use Rattle.std.specs.Prelude.{IfSome}
 use Rattle.std.specs.List.{AllByRecursion}
-use Rattle.tai_status.specs.Label.{IsLabel}
-use Rattle.tai_status.specs.Record.{IsStatus}
 use Rattle.sup_core.specs.declared.event.Event.{Event}
 use Rattle.sup_core.specs.declared.asks.Ask.{Ask}
 use Rattle.sup_core.specs.declared.asks.Reply.{Reply}
 use Rattle.sup_core.specs.declared.asks.Reply.TheVariants.{Took, Held}
-use Rattle.sup_core.specs.State.{State, IsState}
+use Rattle.sup_core.specs.State.{State}
 use Rattle.sup_core.specs.History.{History, Opened, Then, state_of}
 use Rattle.sup_core.specs.Rules.{IsEvent, takes, next, asks_of, reply_to}
 use Rattle.sup_core.specs.Runs.{followed_by, AreTaken, after, taken_of}
-use Rattle.sup_core.specs.Reading.{IsInRange}
 use Rattle.sup_core.proofs.Laws.{AreTaken-concat, AreTaken-drop, AreTaken-state, after-state, followed_by-append}
-use Rattle.sup_core.proofs.Laws.{followed_by-state, next-taken, reply_to-state, reply_to-took, state_of-cut}
+use Rattle.sup_core.proofs.Laws.{followed_by-state, next-taken, reply_to-took, state_of-cut}
 use Rattle.sup_core.proofs.Laws.{taken_of-state, takes-state}
-use Rattle.sup_trace.specs.Content.{IsContent}
-use Rattle.sup_trace.specs.Trace.{Kept, IsTrace, IsKeptUp, history_of, content_by, replay, folded_into, cut, noted}
+use Rattle.sup_trace.specs.Trace.{Kept, IsTrace, IsKeptUp, history_of, replay, folded_into, cut, noted}
 use Rattle.sup_trace.specs.Trace.{noted_if_taken, noted_along, new_trace}
 
 -- A base with the first events folded into it, followed by the other events, replays to what the whole replays to.
@@ -57,20 +52,6 @@ IsTrace-noted kept events trace taken =
           (AreTaken-drop base n all (AreTaken-concat base kept.entries events trace.taken taken));
       count = omega (arith);
     }
-
--- If the entries are not full, one more is kept.
-pub noted-room : (kept : Kept) (event : Event) → IsTrace kept → length kept.entries < kept.capacity
-    → noted kept (event ∷ []) ≡ record {
-      base = kept.base;
-      entries = kept.entries ++ event ∷ [];
-      capacity =
-          kept.capacity;
-      folded = kept.folded;
-    }
-noted-room kept event trace room =
-    let none : cut kept (event ∷ []) ≡ 0 = omega (arith, length-append kept.entries (event ∷ [])) in
-    let same : min (kept.folded + 0) (2 ^ 63) ≡ kept.folded = omega (arith, trace.count) in
-    rw none (rw same refl)
 
 -- If they are full, the oldest one is folded into the base.
 pub full-cut : (base : State) (entries : List Event) (event oldest : Event) → AreTaken (Opened base) entries
@@ -242,45 +223,11 @@ replay-noted_if_taken kept event =
       | false ↦ refl
     ]
 
--- Events in two groups
-pub noted_along-append : (kept : Kept) (xs ys : List Event) → noted_along kept (xs ++ ys)
-    ≡ noted_along (noted_along kept xs) ys
-noted_along-append kept [] ys = refl
-noted_along-append kept (x ∷ xs) ys = noted_along-append (noted_if_taken kept x) xs ys
-
--- A trace after any events is a trace.
-pub IsTrace-noted_along : (kept : Kept) (events : List Event) → IsTrace kept → AllByRecursion IsEvent events
-    → IsTrace (noted_along kept events)
-IsTrace-noted_along kept [] trace conditions = trace
-IsTrace-noted_along kept (event ∷ events) trace conditions =
-    IsTrace-noted_along (noted_if_taken kept event) events (IsTrace-noted_if_taken kept event trace conditions.0)
-    conditions.1
-
 -- What is taken, and the reply to it, are the same after a trace as after its whole history.
 pub takes-noted : (kept : Kept) (events : List Event) (event : Event)
     → takes (history_of (noted kept events)) event ≡ takes (followed_by (history_of kept) events) event
 takes-noted kept events event =
     takes-state (history_of (noted kept events)) (followed_by (history_of kept) events) event (replay-noted kept events)
-
-pub reply_to-noted : (kept : Kept) (events : List Event) (event : Event)
-    → reply_to (history_of (noted kept events)) event ≡ reply_to (followed_by (history_of kept) events) event
-reply_to-noted kept events event =
-    reply_to-state (history_of (noted kept events)) (followed_by (history_of kept) events) event
-    (replay-noted kept events)
-
--- The text of a trace has valid content. The premises are what the types of machines and events guarantee.
-pub IsContent-content_by : (kept : Kept) → IsTrace kept → IsState kept.base → IsStatus kept.base.status
-    → IfSome kept.base.until IsLabel
-    → AllByRecursion IsInRange kept.entries → IsContent (content_by kept)
-IsContent-content_by kept trace state status until ranges = record {
-  state = state;
-  status = status;
-  until = until;
-  count = trace.count;
-  limit = let fits = trace.fits in let limit = trace.limit in omega (arith, fits, limit);
-  taken = trace.taken;
-  ranges = ranges;
-}
 
 -- What the reply to an event shows about the trace
 pub taken-answered : (kept : Kept) (event : Event) (machine : State) (reply : Reply) (asks : List Ask)

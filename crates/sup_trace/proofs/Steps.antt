@@ -58,24 +58,6 @@ line_refused number heard why line text rest cut is =
     ap (content_by_parts number heard) cut
     ∙ stops number heard why line (parts_of rest) (split_some_part (λ byte. byte == 10) rest) is
 
--- Not all of the text was read.
-abbrev pub IsPartial : Heard → Type 0
-IsPartial (Whole content) = ⊥
-IsPartial other = Unit {0}
-
-at_end-partial : (number : ℕ) (heard : Heard) (rest : List ℕ) → IsPartial heard
-    → at_end number heard rest ≡ refusal number kind.Line
-at_end-partial number Nothing rest h = refl
-at_end-partial number Header rest h = refl
-at_end-partial number (Entries content) rest h = refl
-at_end-partial number (Whole content) rest h = absurd h
-
--- a line that is missing, or has no newline
-pub line_missing : (number : ℕ) (heard : Heard) (text : List ℕ) → IsPartial heard → parts_of text ≡ text ∷ []
-    → content_by_parts number heard (parts_of text) ≡ refusal number kind.Line
-line_missing number heard text partial cut = ap (content_by_parts number heard) cut
-    ∙ at_end-partial number heard text partial
-
 over_parts : (number : ℕ) (content : Content) (part : List ℕ) (parts : List (List ℕ)) → (parts ≡ [] → 0 < length part)
     → content_by_parts number (Whole content) (part ∷ parts) ≡ refusal number kind.Line
 over_parts number content [] [] some = absurd (let h = some refl in omega (arith, h))

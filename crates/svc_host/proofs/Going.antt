@@ -95,9 +95,6 @@ stays_same part = record {
 pub is_heard_so : (part : HostPart) → IsHeard part part
 is_heard_so part = record { goes_on = stays_same part; has_ended = refl; untaken = refl; loss = refl }
 
-pub is_read_so : (part : HostPart) → IsRead part part
-is_read_so part = record { is_heard = is_heard_so part; kept = refl }
-
 pub goes_on_then : (a b c : HostPart) → PartGoesOn a b → PartGoesOn b c → PartGoesOn a c
 goes_on_then a b c p q =
     record {
@@ -191,11 +188,6 @@ pub set_length : (parts : List HostPart) (place : ℕ) (new : HostPart) → leng
 set_length [] place new = refl
 set_length (part ∷ parts) zero new = refl
 set_length (part ∷ parts) (suc place) new = ap suc (set_length parts place new)
-
--- a part that is at a place is somewhere
-pub not_nowhere : (id : PartId) (parts : List HostPart) (place : ℕ) → IsPlace id parts place → IsNowhere id parts → ⊥
-not_nowhere id [] place at nowhere = absurd (omega (arith, at.within))
-not_nowhere id (part ∷ parts) place at nowhere = nowhere place part at.within (at.here part)
 
 pub step_heard : (parts : List HostPart) (place : ℕ) (news : List HostPart) → IsHearing parts place news
     → AreHeard parts news

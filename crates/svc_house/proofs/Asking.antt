@@ -7,7 +7,7 @@ use Rattle.sup_core.specs.declared.asks.Sig.{Sig}
 use Rattle.sup_core.specs.declared.event.Event.{Event}
 use Rattle.sup_core.specs.declared.event.Event.TheVariants.{Byte, Started, StartFailed, Death, Clock}
 use Rattle.sup_core.specs.History.{History, Then, calls_for_start, pid_of, runs}
-use Rattle.sup_core.specs.Rules.{asks_of, asks_of_begin, record_of, signals_after, signals_of, start_of, writes}
+use Rattle.sup_core.specs.Rules.{asks_of, record_of, signals_after, signals_of, start_of, writes}
 use Rattle.svc_house.specs.Calls.{IsAsk}
 
 each-fit : (pid : ℕ) → 0 < pid → (sigs : List Sig) → All IsAsk (map (λ sig. Signal sig pid) sigs)
@@ -43,9 +43,3 @@ asks-fit past event =
     (All-append IsAsk (signals_after past event) records (signals-fit past event)
     (if-fit (writes event) (record_of (Then past event)) (λ _. one-fit _ tt)))
     (if-fit (calls_for_start (Then past event)) (Start ∷ []) (λ _. one-fit Start tt))
-
--- The same is true when supervise begins.
-pub asks_of_begin-fit : (past : History) → All IsAsk (asks_of_begin past)
-asks_of_begin-fit past =
-    All-append IsAsk (record_of past) (start_of past) (one-fit _ tt)
-    (if-fit (calls_for_start past) (Start ∷ []) (λ _. one-fit Start tt))

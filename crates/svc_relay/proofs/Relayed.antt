@@ -69,11 +69,6 @@ same_fronts earlier here taken bytes within =
     ap (λ l. take here l) (drop-append-le earlier taken bytes first)
     ∙ take-append-le here (drop earlier taken) bytes enough
 
-pub filled_earlier : (earlier here : ℕ) (taken more bytes : List ℕ) → earlier + here ≤ length taken
-    → more ≡ taken ++ bytes → take earlier more ≡ take earlier taken
-filled_earlier earlier here taken more bytes within is = ap (λ l. take earlier l) is
-    ∙ take-append-le earlier taken bytes (omega (arith, within))
-
 pub filled_here : (earlier here : ℕ) (taken more bytes : List ℕ) → earlier + here ≤ length taken → more ≡ taken ++ bytes
     → take here (drop earlier more) ≡ take here (drop earlier taken)
 filled_here earlier here taken more bytes within is = ap (λ l. take here (drop earlier l)) is

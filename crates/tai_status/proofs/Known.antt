@@ -22,22 +22,11 @@ Keeps-then (Some xs) None c k l = absurd k
 Keeps-then (Some xs) (Some ys) None k l = absurd l
 Keeps-then (Some xs) (Some ys) (Some zs) k l = l ∙ k
 
-pub Keeps-Appends : (a b c : Option (List ℕ)) (bs : List ℕ) → Keeps a b → Appends b c bs → Appends a c bs
-Keeps-Appends None b c bs k l = tt
-Keeps-Appends (Some xs) None c bs k l = absurd k
-Keeps-Appends (Some xs) (Some ys) None bs k l = absurd l
-Keeps-Appends (Some xs) (Some ys) (Some zs) bs k l = l ∙ ap (λ (t : List ℕ). t ++ bs) k
-
 pub Keeps-Consumes : (a b c : Option (List ℕ)) (bs : List ℕ) → Keeps a b → Consumes b c bs → Consumes a c bs
 Keeps-Consumes None b c bs k l = tt
 Keeps-Consumes (Some xs) None c bs k l = absurd k
 Keeps-Consumes (Some xs) (Some ys) None bs k l = absurd l
 Keeps-Consumes (Some xs) (Some ys) (Some zs) bs k l = sym k ∙ l
-
-pub Keeps-from_nothing : (a b : Option (List ℕ)) → Appends a b [] → Keeps a b
-Keeps-from_nothing None b k = tt
-Keeps-from_nothing (Some xs) None k = absurd k
-Keeps-from_nothing (Some xs) (Some ys) k = k ∙ append-nil xs
 
 pub Appends-nothing : (a b : Option (List ℕ)) → Keeps a b → Appends a b []
 Appends-nothing None b k = tt

@@ -3,7 +3,7 @@ use Rattle.std.proofs.Common.{◌≡◌, ℕ, suc, ◌+◌, ◌-◌, ◌<◌, �
 use Rattle.std.proofs.Common.{take, drop, get_or, refl, sym, ap, ◌∙◌, arith, length-drop, drop-cons}
 use Rattle.std.specs.List.{slice_range}
 use Rattle.std.proofs.Math.Seq.{take-add, take-length}
-use Rattle.std.proofs.lemmas.List.{take-append-le, drop-take, drop-drop, length-take-le, get_or-drop, get_or-take}
+use Rattle.std.proofs.lemmas.List.{take-append-le, drop-drop, length-take-le, get_or-drop, get_or-take}
 use Rattle.std.proofs.lemmas.Bool.{eqb-true}
 use Rattle.memchr.specs.Find.{NoneBefore, Nowhere, Passes, is_byte}
 use Rattle.tai_status.specs.LineReader.{IsPlain}
@@ -18,15 +18,6 @@ ranges_join xs s m e below above =
     ∙ take-add (m - s) (e - m) (drop s xs)
     ∙ ap (λ (ys : List ℕ). take (m - s) (drop s xs) ++ take (e - m) ys) (drop-drop (m - s) s xs
     ∙ ap (λ (n : ℕ). drop n xs) place)
-
-range_by_front : (xs : List ℕ) (s e : ℕ) → s ≤ e → slice_range xs s e ≡ drop s (take e xs)
-range_by_front xs s e below =
-    let place : s + (e - s) ≡ e = omega arith in
-    sym (drop-take s (e - s) xs) ∙ ap (λ (n : ℕ). drop s (take n xs)) place
-
--- A range depends only on the bytes before its end.
-pub range-front : (xs ys : List ℕ) (s e : ℕ) → s ≤ e → take e xs ≡ take e ys → slice_range xs s e ≡ slice_range ys s e
-range-front xs ys s e below same = range_by_front xs s e below ∙ ap (drop s) same ∙ sym (range_by_front ys s e below)
 
 pub range-length : (xs : List ℕ) (s e : ℕ) → s ≤ e → e ≤ length xs → length (slice_range xs s e) ≡ e - s
 range-length xs s e below within = length-take-le (e - s) (drop s xs) (omega (arith, length-drop s xs))
