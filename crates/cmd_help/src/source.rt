@@ -4,4 +4,4 @@
 pub(crate) const KIT: &str = "rattle-kit-13b logic dac8208d650f15bf";
 
 /// The sum of its sources, as packaging/source-sum says it.
-pub(crate) const SOURCE: &str = "6c739d744a31ab09afd840400ecd922c3fc576d2867f522be5213f1be043a72e";
+pub(crate) const SOURCE: &str = "4f9bc6d228201f89a5ab6a5aaabbb686d646fd844a05bb0cdff377d7d6641e44";

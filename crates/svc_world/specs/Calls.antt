@@ -22,6 +22,7 @@ use Rattle.svc_world.specs.declared.paper.Remark.{Remark}
 -- - The tick at which the process with this number began was sought.
 -- - The present tick was read.
 -- - The clock was read.
+-- - The time was read that does not go back with the clock.
 -- - It was sought whether the service has a `finish`.
 -- - A `finish` was spawned after this end and got this number, or could not be made.
 -- - It was sought whether a `finish` that began at this tick has run for as long as it may.
@@ -40,6 +41,7 @@ pub data Call : Type 0 where
   SoughtTick : (pid : ℕ) → (tick : Option ℕ) → Call
   ReadTick : (tick : ℕ) → Call
   ReadClock : (label : Tai64n) → Call
+  ReadSteady : (label : Tai64n) → Call
   SoughtFinish : (has : Bool) → Call
   SpawnedFinish : (exit : Exit) → (child : Option ℕ) → Call
   SoughtLate : (tick : ℕ) → (late : Bool) → Call

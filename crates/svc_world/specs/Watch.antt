@@ -39,7 +39,7 @@ use Rattle.svc_world.specs.declared.paper.Remark.TheVariants.{StillRuns, Unwritt
 use Rattle.svc_world.specs.Backoff.{asks_end}
 use Rattle.svc_world.specs.Owed.{first_owed, is_owed, nothing_owed, with_owed}
 use Rattle.svc_world.specs.Calls.{Call, Spawned, SoughtDeath, Signalled, Wrote, Said, SoughtLeftover, Adopted}
-use Rattle.svc_world.specs.Calls.{SoughtTick, ReadTick, ReadClock, SoughtKillTime, SoughtLate}
+use Rattle.svc_world.specs.Calls.{SoughtTick, ReadTick, ReadClock, ReadSteady, SoughtKillTime, SoughtLate}
 use Rattle.svc_world.specs.Calls.{SoughtReady}
 
 pub record Watch : Type 0 where
@@ -226,6 +226,11 @@ SeeksLeftover true found old new = SoughtOpen found old new
 -- The clock was read, once.
 pub record ReadsClock (label : Tai64n) (old new : Watch) : Type 0 where
   pub calls : ExtendedWhileKept old.calls new.calls (ReadClock label ∷ [])
+  pub stands : new ≡ record old { calls = new.calls }
+
+-- The time was read that does not go back with the clock, once.
+pub record ReadsSteady (label : Tai64n) (old new : Watch) : Type 0 where
+  pub calls : ExtendedWhileKept old.calls new.calls (ReadSteady label ∷ [])
   pub stands : new ≡ record old { calls = new.calls }
 
 -- The present tick was read, once.

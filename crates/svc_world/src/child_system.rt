@@ -12,7 +12,7 @@ pub trait ChildSystem {
     ghost use Rattle.svc_house.specs.Calls.{MadeWhileKept};
     ghost use Rattle.svc_world.specs.Calls.{Call, Spawned, SoughtDeath, Lingered, Signalled, Wrote, Said};
     ghost use Rattle.svc_world.specs.Calls.{SoughtLeftover, Adopted, SoughtLate, SoughtTick, ReadTick, ReadClock};
-    ghost use Rattle.svc_world.specs.Calls.{SoughtBackoff, SoughtFinish, SoughtKillTime, SoughtReady, SpawnedFinish};
+    ghost use Rattle.svc_world.specs.Calls.{ReadSteady, SoughtBackoff, SoughtFinish, SoughtKillTime, SoughtReady, SpawnedFinish};
     ghost use Rattle.svc_record.specs.Leftover.{HasNumber, IsAwaited};
 
     ghost calls: { Self → Option (List Call) } = { λ _. None };
@@ -105,5 +105,5 @@ pub trait ChildSystem {
     /// Returns the time, or the last one that `now` gave and the seconds that have passed since then, if that is later.
     /// The end of a rest is therefore reached although the clock is set back.
     fn steady_now(&mut self) -> Label
-        ensures calls { MadeWhileKept calls (ReadClock result) self.old self.new };
+        ensures calls { MadeWhileKept calls (ReadSteady result) self.old self.new };
 }

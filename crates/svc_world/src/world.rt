@@ -201,7 +201,7 @@ impl<C: ChildSystem + Drop> World for ChildWorld<C> {
     ghost use Rattle.std.specs.Prelude.{◌≡◌, ◌≢◌, ◌<◌, None, IfSome};
     ghost use Rattle.svc_house.specs.Calls.{IsAnswer};
     ghost use Rattle.svc_world.specs.declared.begin.LastChild.TheVariants.{Alive};
-    ghost use Rattle.svc_world.specs.Watch.{Mends, ReadsClock, Records, SeeksKillTime, SignalsChild, Starts};
+    ghost use Rattle.svc_world.specs.Watch.{Mends, ReadsSteady, Records, SeeksKillTime, SignalsChild, Starts};
     ghost use Rattle.svc_world.specs.Deaths.{PollsDeath};
     ghost use Rattle.svc_world.specs.Watch.{Watch};
 
@@ -272,7 +272,7 @@ impl<C: ChildSystem + Drop> World for ChildWorld<C> {
 
     /// Returns the time, for a service that settles or rests.
     fn clock(&mut self) -> Label
-        ensures { ReadsClock result self.old self.new }
+        ensures { ReadsSteady result self.old self.new }
     {
         self.system.steady_now()
     }
