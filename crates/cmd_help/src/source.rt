@@ -4,4 +4,4 @@
 pub(crate) const KIT: &str = "rattle-kit-13b logic dac8208d650f15bf";
 
 /// The sum of its sources, as packaging/source-sum says it.
-pub(crate) const SOURCE: &str = "4f9bc6d228201f89a5ab6a5aaabbb686d646fd844a05bb0cdff377d7d6641e44";
+pub(crate) const SOURCE: &str = "df4195e674786197b918ba47cb386a3a30308c06b53437f03a18fe992c70db49";

@@ -205,7 +205,7 @@ fn leads(intent: &Intent, one: &Seen) -> bool
 }
 
 /// Returns whether a process may be the one of the start, by its session.
-fn may_be_started(intent: &Intent, one: &Seen) -> bool
+pub fn may_be_started(intent: &Intent, one: &Seen) -> bool
     ensures { result ≡ may_be_started intent.now one.now }
 {
     one.session == intent.session || (intent.begins_session && leads(intent, one))

@@ -32,7 +32,7 @@ pub use counts::{Counts, CountsText, counts_text};
 pub use ending::{Ending, ending_of, signal_name};
 pub use exit::{Exit, ExitText, exit_text};
 pub use laws::{nobody_is_left, takes_up_its_own};
-pub use leftover::{Intent, Leftover, Seen, find_any_here, find_leftover};
+pub use leftover::{Intent, Leftover, Seen, find_any_here, find_leftover, may_be_started};
 pub use moment::{Moment, before_newline, moment_in, moment_text};
 pub use opening::{Left, Opening};
 pub use place::{PLACE_BYTES, Place, PlaceLine, first_line, place_line, read_place};

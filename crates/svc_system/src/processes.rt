@@ -15,7 +15,9 @@ use std::io::Read;
 use std::os::unix::fs::MetadataExt;
 use std::{fs, io};
 use sup_core::read_number;
-use svc_record::{BootId, Intent, Place, ProcessId, STAT_BYTES, Seen, Stat, read_process};
+use svc_record::{
+    BootId, Intent, Place, ProcessId, STAT_BYTES, Seen, Stat, may_be_started, read_process,
+};
 use tai_status::Want;
 
 /// The error number for a process that is gone (errno(3)).
@@ -202,7 +204,8 @@ pub(crate) fn is_named_there<R: Files<File = File>>(files: &R, process: &Process
 
 /// Returns all processes of the system as they are seen now. For those that began since the intent, `is_here` says
 /// whether they are the service's. For the others that began since then, the neighbour in whose folder they run is
-/// looked up, and whether the folder in which they run names them.
+/// looked up. If one of them may be the process of the start, it is looked up whether the folder in which it runs names
+/// it as the process of its own service.
 #[inline(never)]
 pub(crate) fn see_all<R: Files<File = File> + StatSource, F: Fn(u32) -> bool>(
     files: &R,
@@ -231,7 +234,8 @@ pub(crate) fn see_all<R: Files<File = File> + StatSource, F: Fn(u32) -> bool>(
                 seen.is_here = is_here(pid);
                 if !seen.is_here {
                     seen.neighbour = near.folder_of(files, pid);
-                    seen.is_elsewhere = own.names_there(files, pid, seen.tick);
+                    seen.is_elsewhere = may_be_started(intent, &seen)
+                        && own.names_there(files, pid, seen.tick);
                 }
             }
             all.push(seen)?;
