@@ -4,4 +4,4 @@
 pub(crate) const KIT: &str = "rattle-kit-13b logic dac8208d650f15bf";
 
 /// The sum of its sources, as packaging/source-sum says it.
-pub(crate) const SOURCE: &str = "df4195e674786197b918ba47cb386a3a30308c06b53437f03a18fe992c70db49";
+pub(crate) const SOURCE: &str = "3db96b364a3db5c1294029b8529c643f82b78755e006d4044a792cbecd4d190f";

@@ -5,14 +5,14 @@ use Rattle.svc_maker.specs.declared.holder.OwnFault.{OwnFault}
 use Rattle.svc_maker.specs.declared.holder.OwnFault.TheVariants.{Unopened, NotAdmitted}
 use Rattle.svc_system.specs.declared.folder.FolderFault.TheVariants as folder
 use Rattle.svscan_rounds.specs.Quiet.{fresh}
-use Rattle.svscan_rounds.specs.declared.service_set.Beginning.{Beginning}
-use Rattle.svscan_rounds.specs.declared.service_set.Beginning.TheVariants.{Served, Unserved, Locked, Unread, Refused}
+use Rattle.svscan_rounds.specs.declared.service_set.Startup.{Startup}
+use Rattle.svscan_rounds.specs.declared.service_set.Startup.TheVariants.{Served, Unserved, Locked, Unread, Refused}
 use Rattle.svc_host.specs.Calls.{ServedOwn}
 use Rattle.cmd_svscan.specs.Asking.{IsAsked, own_path}
 use Rattle.cmd_svscan.specs.Serving.{Serving}
 
 -- what is said about svscan itself if it is not served
-abbrev pub unserved : OwnFault → Beginning
+abbrev pub unserved : OwnFault → Startup
 unserved (Unopened folder.Locked) = Locked
 unserved (Unopened (folder.NotOpened cause)) = Unserved cause
 unserved (NotAdmitted cause) = Unserved cause
@@ -24,7 +24,7 @@ pub record Begins (folder : List ℕ) (old new : Serving) : Type 0 where
   pub quiet : new.quiet ≡ old.quiet
 
 -- svscan exits, because the folder can't be read, or no service could be kept running.
-abbrev pub IsRefused : Beginning → Type 0
+abbrev pub IsRefused : Startup → Type 0
 IsRefused Served = ⊥
 IsRefused (Unserved cause) = ⊥
 IsRefused Locked = ⊥
@@ -32,7 +32,7 @@ IsRefused (Unread cause) = ⊤
 IsRefused (Refused cause) = ⊤
 
 -- A host was to serve svscan, if there is one.
-abbrev pub BeginsIf : (folder : List ℕ) → (old : Option Serving) → Beginning → (new : Option Serving) → Type 0
+abbrev pub BeginsIf : (folder : List ℕ) → (old : Option Serving) → Startup → (new : Option Serving) → Type 0
 BeginsIf folder None begun None = IsRefused begun
 BeginsIf folder (Some old) begun (Some new) = Begins folder old new
 BeginsIf folder old begun new = ⊥
@@ -51,7 +51,7 @@ Opens None (Some new) = IsNew new
 Opens (Some old) new = new ≡ Some old
 
 -- svscan was to be served, after a host was made if there was none.
-pub record OpensAndBegins (folder : List ℕ) (old : Option Serving) (begun : Beginning) (new : Option Serving) : Type 0 where
+pub record OpensAndBegins (folder : List ℕ) (old : Option Serving) (begun : Startup) (new : Option Serving) : Type 0 where
   pub opened : Option Serving
   pub opens : Opens old opened
   pub begins : BeginsIf folder opened begun new

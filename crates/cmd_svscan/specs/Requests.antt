@@ -3,7 +3,7 @@ use Rattle.std.specs.Prelude.{◌≡◌, ℕ, List, [], Option, Some, None, Resu
 use Rattle.scan_table.specs.Slots.{Row}
 use Rattle.scan_table.specs.declared.fault.ScanFault.{ScanFault}
 use Rattle.scan_table.specs.declared.fault.ScanFault.TheVariants as scan
-use Rattle.svscan_rounds.specs.declared.service_set.Beginning.{Beginning}
+use Rattle.svscan_rounds.specs.declared.service_set.Startup.{Startup}
 use Rattle.svscan_rounds.specs.declared.service_set.ListFault.{ListFault}
 use Rattle.svscan_rounds.specs.declared.service_set.ListFault.TheVariants as list
 use Rattle.svscan_rounds.specs.declared.service_set.Listing.{Listing}

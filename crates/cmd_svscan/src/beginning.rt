@@ -13,17 +13,17 @@ use std::{fs, process};
 use svc_host::Runtime;
 use svc_maker::{FolderHolder, OwnFault};
 use svc_system::FolderFault;
-use svscan_rounds::Beginning;
+use svscan_rounds::Startup;
 use tai_status::Cause;
 
 /// Returns what is said about svscan itself if it is not served.
-fn unserved(fault: OwnFault) -> Beginning
+fn unserved(fault: OwnFault) -> Startup
     ensures { result ≡ unserved fault }
 {
     match fault {
-        OwnFault::Unopened(FolderFault::Locked) => Beginning::Locked,
+        OwnFault::Unopened(FolderFault::Locked) => Startup::Locked,
         OwnFault::Unopened(FolderFault::NotOpened(cause)) | OwnFault::NotAdmitted(cause) =>
-            Beginning::Unserved(cause),
+            Startup::Unserved(cause),
     }
 }
 
@@ -34,23 +34,23 @@ fn begin<M, R>(
     alloc: Global,
     running: &mut RunningHost<M, R>,
     folder: &str,
-) -> Beginning
+) -> Startup
 where
     M: FolderHolder + Drop,
     R: Runtime,
     ensures { Begins folder.now running.old running.new }
 {
     let Ok(path) = format!(in alloc; "{folder}/.svscan") else {
-        return Beginning::Unserved(Cause::NoMemory);
+        return Startup::Unserved(Cause::NoMemory);
     };
     let Some((sender, inbox)) = running.host.own_mailbox(MAIL) else {
-        return Beginning::Unserved(Cause::NoMemory);
+        return Startup::Unserved(Cause::NoMemory);
     };
     let record = own_record(rt, process::id(files.process()));
     match serve_own(&mut running.host, path, &record, sender) {
         Ok(()) => {
             running.inbox = Some(inbox);
-            Beginning::Served
+            Startup::Served
         }
         Err(fault) => unserved(fault),
     }
@@ -88,18 +88,18 @@ fn try_begin<M, R>(
     alloc: Global,
     running: &mut Option<RunningHost<M, R>>,
     folder: &str,
-) -> Beginning
+) -> Startup
 where
     M: FolderHolder + Drop,
     R: Files + Runtime,
     ensures { BeginsIf folder.now running.old result running.new }
 {
     if let Err(cause) = read_folder(&rt, alloc, folder) {
-        return Beginning::Unread(cause);
+        return Startup::Unread(cause);
     }
     match running {
         Some(running) => begin(rt, files, alloc, running, folder),
-        None => Beginning::Refused(Cause::NoMemory),
+        None => Startup::Refused(Cause::NoMemory),
     }
 }
 
@@ -111,14 +111,14 @@ pub(crate) fn open_and_begin<R>(
     alloc: Global,
     running: &mut Option<SystemHost<R>>,
     folder: &str,
-) -> Beginning
+) -> Startup
 where
     R: Files + Net + Processes<Started = SystemProcess>,
     R: Runtime + Sync,
     ensures { OpensAndBegins folder.now running.old result running.new }
 {
     if let Err(cause) = open(rt, files, alloc, running) {
-        return Beginning::Refused(cause);
+        return Startup::Refused(cause);
     }
     try_begin(rt, files, alloc, running, folder)
 }

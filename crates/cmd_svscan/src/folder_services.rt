@@ -19,7 +19,7 @@ use std::thread;
 use svc_host::{Loss, Maker, PartFault, Runtime};
 use svc_maker::FolderHolder;
 use svscan_rounds::{
-    Beginning, ListFault, Listing, Remaining, RoundOut, ServiceSet, Sight, Supervision, Unlogged,
+    ListFault, Listing, Remaining, RoundOut, ServiceSet, Sight, Startup, Supervision, Unlogged,
     whole_rest,
 };
 use tai_status::Cause;
@@ -49,7 +49,7 @@ pub enum Request {
 #[derive(Drop)]
 pub enum Response {
     /// The response to `Begin`.
-    Begun(Beginning),
+    Begun(Startup),
     /// The response to `List`.
     Rows(Result<Listing, ListFault>),
     /// The response to `Round`.
@@ -231,9 +231,9 @@ impl<F: FnMut(Request) -> Response + Drop> ServiceSet for FolderServices<F> {
     // The function may always be called, and its responses are those of something that is served.
     ghost ready = { λ services. F.IsAlwaysCallable services.handle × RespondsAsServed F.post };
 
-    fn begin(&mut self, folder: &str) -> Beginning {
+    fn begin(&mut self, folder: &str) -> Startup {
         let Ok(folder) = String::from_str(self.alloc, folder) else {
-            return Beginning::Unserved(Cause::NoMemory);
+            return Startup::Unserved(Cause::NoMemory);
         };
         match (self.handle)(Request::Begin(folder)) {
             Response::Begun(begun) => begun,

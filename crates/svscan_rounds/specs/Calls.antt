@@ -2,7 +2,7 @@
 use Rattle.std.specs.Prelude.{ℕ, List, Option, Result}
 use Rattle.scan_table.specs.Slots.{Row}
 use Rattle.scan_table.specs.declared.fault.ScanFault.{ScanFault}
-use Rattle.svscan_rounds.specs.declared.service_set.Beginning.{Beginning}
+use Rattle.svscan_rounds.specs.declared.service_set.Startup.{Startup}
 use Rattle.svscan_rounds.specs.declared.service_set.ListFault.{ListFault}
 use Rattle.svscan_rounds.specs.declared.service_set.Listing.{Listing}
 use Rattle.svscan_rounds.specs.declared.service_set.Remaining.{Remaining}
@@ -22,7 +22,7 @@ use Rattle.svscan_rounds.specs.declared.service_set.Unlogged.{Unlogged}
 -- - The one service in the folder was begun.
 -- - The one service was watched over.
 pub data Call : Type 0 where
-  Began : (folder : List ℕ) → (begun : Beginning) → Call
+  Began : (folder : List ℕ) → (begun : Startup) → Call
   Listed : (folder : List ℕ) → (found : Result Listing ListFault) → Call
   Scanned : (folder : List ℕ) → (rows : List Row) → (out : Result RoundOut ScanFault) → Call
   Heard : (byte : Option ℕ) → Call

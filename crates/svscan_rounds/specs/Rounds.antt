@@ -13,8 +13,8 @@ use Rattle.svc_host.specs.declared.maker.PartFault.{PartFault}
 use Rattle.svc_host.specs.declared.maker.PartFault.TheVariants as part
 use Rattle.svscan_rounds.specs.declared.orders.Order.{Order}
 use Rattle.svscan_rounds.specs.declared.orders.Order.TheVariants as order
-use Rattle.svscan_rounds.specs.declared.service_set.Beginning.{Beginning}
-use Rattle.svscan_rounds.specs.declared.service_set.Beginning.TheVariants.{Served, Unserved, Locked, Unread, Refused}
+use Rattle.svscan_rounds.specs.declared.service_set.Startup.{Startup}
+use Rattle.svscan_rounds.specs.declared.service_set.Startup.TheVariants.{Served, Unserved, Locked, Unread, Refused}
 use Rattle.svscan_rounds.specs.declared.service_set.ListFault.{ListFault}
 use Rattle.svscan_rounds.specs.declared.service_set.ListFault.TheVariants as list
 use Rattle.svscan_rounds.specs.declared.service_set.Listing.{Listing}
@@ -299,7 +299,7 @@ abbrev pub locked_report : (folder : List ℕ) → List ℕ
 locked_report folder = codes "svscan: unable to lock " ++ (folder ++ 10 ∷ [])
 
 -- What is reported when svscan is to be served in a folder.
-abbrev pub lines_of_begun : (folder : List ℕ) → Beginning → List (List ℕ)
+abbrev pub lines_of_begun : (folder : List ℕ) → Startup → List (List ℕ)
 lines_of_begun folder Served = []
 lines_of_begun folder (Unserved cause) = name_report (unable_to_supervise cause) (codes ".svscan") ∷ []
 lines_of_begun folder (Refused cause) = name_report (unable_to_supervise cause) (codes ".svscan") ∷ []
@@ -307,14 +307,14 @@ lines_of_begun folder (Unread cause) = unread_report folder cause ∷ []
 lines_of_begun folder Locked = locked_report folder ∷ []
 
 -- svscan runs, unless another svscan has the folder, or the folder can't be read, or no service could be kept running.
-abbrev pub RunsIfBegun : Beginning → (folder : List ℕ) (limit : Option ℕ) (status : ℕ) (old new : Effects) → Type 0
+abbrev pub RunsIfBegun : Startup → (folder : List ℕ) (limit : Option ℕ) (status : ℕ) (old new : Effects) → Type 0
 RunsIfBegun Served folder limit status old new = Runs folder limit status old new
 RunsIfBegun (Unserved cause) folder limit status old new = Runs folder limit status old new
 RunsIfBegun ends folder limit status old new = (status ≡ 111) × (new ≡ old)
 
 -- svscan begins, and runs.
 pub record BeginsAndRuns (folder : List ℕ) (limit : Option ℕ) (status : ℕ) (old new : Effects) : Type 0 where
-  pub begun : Beginning
+  pub begun : Startup
   pub middle : Effects
   pub calls : Extended old.calls middle.calls (Began folder begun ∷ [])
   pub reported : ReportsAll (lines_of_begun folder begun) old.faults middle.faults

@@ -31,7 +31,7 @@ pub use resting::{rest_left, whole_rest};
 pub use rounds::run_svscan;
 pub use rows::{Entry, Folder, rows_of};
 pub use service_set::{
-    Beginning, ListFault, Listing, Remaining, RoundOut, ServiceSet, Shortage, Sight, Supervision,
+    ListFault, Listing, Remaining, RoundOut, ServiceSet, Shortage, Sight, Startup, Supervision,
     Unfinished, Unlogged, UnmadePart, Untaken,
 };
 pub use supervise::run_supervise;

@@ -15,7 +15,7 @@ ghost use Rattle.tai_status.specs.Words.{texts};
 
 use crate::orders::{Order, order_of};
 use crate::service_set::{
-    Beginning, ListFault, Listing, Remaining, RoundOut, ServiceSet, Shortage, Unfinished, Unlogged,
+    ListFault, Listing, Remaining, RoundOut, ServiceSet, Shortage, Startup, Unfinished, Unlogged,
     UnmadePart, Untaken,
 };
 use crate::words::read_words;
@@ -446,15 +446,15 @@ fn report_locked<E: Write>(folder: &str, faults: &mut Output<E>)
 }
 
 /// Reports if svscan itself is not served in a folder.
-fn report_begun<E: Write>(folder: &str, begun: Beginning, faults: &mut Output<E>)
+fn report_begun<E: Write>(folder: &str, begun: Startup, faults: &mut Output<E>)
     ensures { ReportsAll (lines_of_begun folder.now begun) faults.old faults.new }
 {
     match begun {
-        Beginning::Served => {}
-        Beginning::Unserved(cause) => report_unserved(cause, faults),
-        Beginning::Refused(cause) => report_unserved(cause, faults),
-        Beginning::Unread(cause) => report_unread(folder, cause, faults),
-        Beginning::Locked => report_locked(folder, faults),
+        Startup::Served => {}
+        Startup::Unserved(cause) => report_unserved(cause, faults),
+        Startup::Refused(cause) => report_unserved(cause, faults),
+        Startup::Unread(cause) => report_unread(folder, cause, faults),
+        Startup::Locked => report_locked(folder, faults),
     }
 }
 
@@ -475,10 +475,8 @@ fn begin_and_run<R: Wait, K: ServiceSet, E: Write>(
     let begun = services.begin(folder);
     report_begun(folder, begun, faults);
     match begun {
-        Beginning::Locked | Beginning::Unread(_) | Beginning::Refused(_) => TROUBLE,
-        Beginning::Served | Beginning::Unserved(_) => take_rounds(
-            rt, services, folder, rounds, faults,
-        ),
+        Startup::Locked | Startup::Unread(_) | Startup::Refused(_) => TROUBLE,
+        Startup::Served | Startup::Unserved(_) => take_rounds(rt, services, folder, rounds, faults),
     }
 }
 

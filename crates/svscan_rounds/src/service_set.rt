@@ -63,7 +63,7 @@ pub struct RoundOut {
 
 /// Whether svscan itself is served in a folder.
 #[derive(Clone, Copy, Debug, PartialEq, Eq)]
-pub enum Beginning {
+pub enum Startup {
     /// It is served, and no other svscan will be.
     Served,
     /// It is not served, because the system refused something that its own folder needs.
@@ -135,7 +135,7 @@ pub trait ServiceSet {
 
     /// Called before the first round. Serves svscan itself in the folder, or says why not. Nothing is changed there if
     /// another svscan is served there.
-    fn begin(&mut self, folder: &str) -> Beginning
+    fn begin(&mut self, folder: &str) -> Startup
         requires { ready self.old }
         ensures ready { ready self.new }
         ensures began { Extended (calls self.old) (calls self.new) (Began folder.now result ∷ []) };
