@@ -4,4 +4,4 @@
 pub(crate) const KIT: &str = "rattle-kit-13b logic dac8208d650f15bf";
 
 /// The sum of its sources, as packaging/source-sum says it.
-pub(crate) const SOURCE: &str = "3db96b364a3db5c1294029b8529c643f82b78755e006d4044a792cbecd4d190f";
+pub(crate) const SOURCE: &str = "fb6b0ac5ef311d38f10d2cec4fa8289a99160cc8eb2d7a72c32195ea6427316e";

@@ -8,9 +8,8 @@ use Rattle.tai_status.specs.Label.{Tai64n}
 use Rattle.sup_core.specs.History.{Begin}
 use Rattle.scan_table.specs.declared.part.PartId.{PartId}
 use Rattle.scan_table.specs.declared.part.Role.{Role}
-use Rattle.scan_table.specs.declared.part.Role.TheVariants.{Main, Log}
 use Rattle.scan_table.specs.declared.table.ScanOut.{ScanOut}
-use Rattle.scan_table.specs.Slots.{Row, SlotState}
+use Rattle.scan_table.specs.Slots.{Row, SlotState, is_down}
 use Rattle.scan_table.specs.Scan.{drops, restarts, starts}
 use Rattle.scan_table.specs.Table.{TableState, scanned, slot_at}
 use Rattle.suite_core.specs.Parts.{is_place}
@@ -18,7 +17,7 @@ use Rattle.suite_core.specs.Suite.{SuiteState, beginning, down_where, scan_out, 
 use Rattle.suite_core.specs.Run.{is_taken_away}
 use Rattle.svc_host.specs.declared.host.HostOut.{HostOut}
 use Rattle.svc_host.specs.Parts.{HostPart, stays}
-use Rattle.svc_host.specs.Begun.{Begins, IsBegun, is_down, row_at}
+use Rattle.svc_host.specs.Begun.{Begins, IsBegun, row_at}
 use Rattle.svc_record.specs.declared.opening.Opening.{Opening}
 use Rattle.svc_record.specs.Opening.{beginning as begins_so}
 use Rattle.svc_host.specs.Rounds.{HostState, IsParted, IsScan, IsScanned, staying, unmade_ids}
@@ -59,8 +58,7 @@ filtered f g (part ∷ parts) alike = rw (alike part, filtered f g parts alike) 
 down : (rows : List Row) (role : Role) (slot : Option SlotState) (row : Row) → row_at rows slot ≡ Some row
     → down_where rows role slot ≡ is_down role row
 down rows role None row found = cc found
-down rows Main (Some slot) row found = rw found refl
-down rows Log (Some slot) row found = rw found refl
+down rows role (Some slot) row found = rw found refl
 
 begins : (suite : SuiteState) (rows : List Row) (label : Tai64n) (part : HostPart)
     → Begins (scanned suite.table rows).slots rows label part → BeginsAlike suite rows label part
