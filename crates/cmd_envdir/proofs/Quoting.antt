@@ -1,10 +1,11 @@
 -- Lines and words in single quotes are read as they are.
 use Rattle.std.proofs.Common.{◌≡◌, ℕ, ◌==◌, true, false, List, [], ◌∷◌, ◌++◌, refl, sym, ◌∙◌, ap, cond}
 use Rattle.std.specs.Prelude.{Bool, ◌&&◌, not, Option, Some, None, option_map, flat_map, codes, length}
+use Rattle.std.specs.Char.{is_ascii_digit}
 use Rattle.std.specs.List.{list_all}
 use Rattle.std.proofs.lemmas.List.{append_assoc, append-nil}
 use Rattle.std.proofs.lemmas.Bool.Decides.{Decides-eqb}
-use Rattle.cmd_envdir.specs.Names.{is_digit, is_identifier, is_letter_or_digit}
+use Rattle.cmd_envdir.specs.Names.{is_identifier, is_letter_or_digit}
 use Rattle.cmd_envdir.specs.Shell.{commands_from}
 use Rattle.cmd_envdir.specs.Shell.Position.{Between, Inside, Quoted}
 use Rattle.cmd_envdir.specs.Script.{command_by}
@@ -34,9 +35,9 @@ read_name : (name : List ℕ) (words : List (List ℕ)) (rest : List ℕ) → is
     → commands_from (Between words) (name ++ rest) ≡ commands_from (Inside words name) rest
 read_name [] words rest is = cc is
 read_name (first ∷ name) words rest is =
-    let named = and_parts (not (length (first ∷ name) == 0)) (not (is_digit first)
+    let named = and_parts (not (length (first ∷ name) == 0)) (not (is_ascii_digit first)
     && (is_letter_or_digit first && list_all is_letter_or_digit name)) is in
-    let bare = and_parts (not (is_digit first)) (is_letter_or_digit first && list_all is_letter_or_digit name)
+    let bare = and_parts (not (is_ascii_digit first)) (is_letter_or_digit first && list_all is_letter_or_digit name)
     named.1 in
     let parts = and_parts (is_letter_or_digit first) (list_all is_letter_or_digit name) bare.1 in
     rw parts.0 (read_bare name words (first ∷ []) rest parts.1)

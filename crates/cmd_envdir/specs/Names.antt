@@ -2,22 +2,20 @@
 -- bash(1)).
 use Rattle.std.specs.Prelude.{ℕ, nat_eq, nat_le, ◌==◌, ◌&&◌, ◌||◌, not, Bool, List, [], ◌∷◌, codes, bytes_eq, length}
 use Rattle.std.specs.Prelude.{slice_index}
+use Rattle.std.specs.Char.{is_ascii_digit}
 use Rattle.std.specs.List.{list_all, list_any, starts_with}
 
 -- whether a byte is an ASCII letter or an underscore
 abbrev pub is_letter : ℕ → Bool
 is_letter byte = (nat_le 65 byte && nat_le byte 90) || ((nat_le 97 byte && nat_le byte 122) || byte == 95)
 
-abbrev pub is_digit : ℕ → Bool
-is_digit byte = nat_le 48 byte && nat_le byte 57
-
 abbrev pub is_letter_or_digit : ℕ → Bool
-is_letter_or_digit byte = is_letter byte || is_digit byte
+is_letter_or_digit byte = is_letter byte || is_ascii_digit byte
 
 -- whether a text is a name for a shell
 abbrev pub is_identifier : List ℕ → Bool
 is_identifier name =
-    not (length name == 0) && (not (is_digit (slice_index name 0)) && list_all is_letter_or_digit name)
+    not (length name == 0) && (not (is_ascii_digit (slice_index name 0)) && list_all is_letter_or_digit name)
 
 -- names that dash or bash sets by itself, or does not allow to be set
 abbrev pub reserved : List (List ℕ)

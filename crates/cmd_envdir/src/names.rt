@@ -2,7 +2,6 @@
 ghost use Rattle.std.specs.Prelude.{◌≡◌};
 ghost use Rattle.std.specs.List.{list_all};
 ghost use Rattle.cmd_envdir.specs.Names.{
-  is_digit,
   is_identifier,
   is_left,
   is_letter,
@@ -18,18 +17,11 @@ fn is_letter(byte: u8) -> bool
     matches!(byte, b'A'..=b'Z' | b'a'..=b'z' | b'_')
 }
 
-/// Returns whether a byte is a digit.
-fn is_digit(byte: u8) -> bool
-    ensures { result ≡ is_digit byte }
-{
-    byte.is_ascii_digit()
-}
-
 /// Returns whether a byte is an ASCII letter, an underscore or a digit.
 fn is_letter_or_digit(byte: u8) -> bool
     ensures { result ≡ is_letter_or_digit byte }
 {
-    is_letter(byte) || is_digit(byte)
+    is_letter(byte) || byte.is_ascii_digit()
 }
 
 /// Returns whether all bytes are ASCII letters, underscores or digits.
@@ -44,7 +36,7 @@ fn are_letters_or_digits(bytes: &[u8]) -> bool
 fn is_identifier(bytes: &[u8]) -> bool
     ensures { result ≡ is_identifier bytes.now }
 {
-    !bytes.is_empty() && !is_digit(bytes[0]) && are_letters_or_digits(bytes)
+    !bytes.is_empty() && !bytes[0].is_ascii_digit() && are_letters_or_digits(bytes)
 }
 
 /// Returns whether dash or bash sets a variable by itself, or does not allow it to be set.

@@ -4,4 +4,4 @@
 pub(crate) const KIT: &str = "rattle-kit-13b logic dac8208d650f15bf";
 
 /// The sum of its sources, as packaging/source-sum says it.
-pub(crate) const SOURCE: &str = "fb6b0ac5ef311d38f10d2cec4fa8289a99160cc8eb2d7a72c32195ea6427316e";
+pub(crate) const SOURCE: &str = "b560d6a894ea6c930d83d25deba7ecaf2cbef629bc99b0cdd56701d0d3904bec";

@@ -8,7 +8,7 @@ use Rattle.tai_status.specs.declared.cause.Cause.{Cause}
 use Rattle.mlog_script.specs.Script.{Act}
 use Rattle.mlog_core.specs.Feed.{Feed}
 use Rattle.mlog_core.specs.Run.{World, RunsAll}
-use Rattle.mlog_core.specs.declared.stream.Counts.{Counts}
+use Rattle.mlog_core.specs.declared.stream.RunCounts.{RunCounts}
 use Rattle.cmd_multilog.specs.declared.stop.LoggerEvent.{LoggerEvent}
 use Rattle.cmd_multilog.specs.declared.stop.LoggerEvent.TheVariants as heard
 
@@ -193,6 +193,6 @@ LosesNothing = (coming : Coming) → all_of coming
 
 -- A run that read all of a part handed out exactly that.
 abbrev pub RunsToALine : Type 0
-RunsToALine = (script : List Act) (coming : Coming) (old new : World) (counts : Counts)
+RunsToALine = (script : List Act) (coming : Coming) (old new : World) (counts : RunCounts)
     (ran : RunsAll script old new counts)
     → old.reader.bytes ≡ Some (given false coming) → IsRead new.reader → ran.bytes ≡ given false coming

@@ -1,14 +1,15 @@
 -- The picture of the last hour of a service, from its trace: rectangles on an axis of 3,600 units, one for each second.
 -- The axis is the same for all services. Its right end is now. Moments are in nanoseconds since the beginning of
 -- labels.
-use Rattle.std.specs.Prelude.{ℕ, ◌+◌, ◌-◌, ◌*◌, ◌/◌, ◌^◌, min, nat_le, nat_lt, ◌==◌, ◌&&◌, ◌||◌, not, Bool, true, false}
+use Rattle.std.specs.Prelude.{ℕ, ◌+◌, ◌-◌, ◌/◌, ◌^◌, min, nat_le, nat_lt, ◌==◌, ◌&&◌, ◌||◌, not, Bool, true, false}
 use Rattle.std.specs.Prelude.{if◌then◌else◌, List, [], ◌∷◌, ◌++◌, codes, decimal, flat_map}
-use Rattle.tai_status.specs.Label.{Tai64n}
+use Rattle.tai_status.specs.Label.{Tai64n, nanoseconds}
 use Rattle.sup_core.specs.declared.event.Event.{Event}
 use Rattle.sup_core.specs.declared.event.Event.TheVariants.{Byte, Started, Death}
 use Rattle.sup_trace.specs.Content.{Content}
+use Rattle.cmd_page.specs.declared.picture.TheConstants.{HOUR}
 use Rattle.cmd_why.specs.Entries.{is_signal}
-use Rattle.cmd_why.specs.Facts.{nanos}
+use Rattle.cmd_why.specs.Facts.{is_recent, reaches_back}
 use Rattle.cmd_why.specs.Timeline.{left_end, stretches_of}
 use Rattle.cmd_why.specs.declared.timeline.ShownState.{ShownState}
 use Rattle.cmd_why.specs.declared.timeline.ShownState.TheVariants as shown
@@ -58,7 +59,7 @@ abbrev pub mark : (place : ℕ) → List ℕ
 mark at = if at == 0 then [] else rectangle (codes "died") (at - 12) at
 
 abbrev pub death_text : (now : ℕ) (asked : Bool) → Event → List ℕ
-death_text now asked (Death label) = if asked then [] else mark (place now (nanos label))
+death_text now asked (Death label) = if asked then [] else mark (place now (nanoseconds label))
 death_text now asked other = []
 
 -- the marks of the deaths among these entries that nobody asked for
@@ -75,8 +76,9 @@ has_more content = not (content.folded == 0)
 -- the rectangles of a trace: its stretches, and over them the marks
 unfoldable pub rectangles : (now : Tai64n) (leads : Bool) → Content → List ℕ
 rectangles now leads content =
-    flat_map (stretch_text (nanos now)) (stretches_of content leads (nanos (left_end content now)) (nanos now))
-    ++ deaths (nanos now) (has_more content) content.entries
+    flat_map (stretch_text (nanoseconds now))
+    (stretches_of content leads (nanoseconds (left_end content now)) (nanoseconds now))
+    ++ deaths (nanoseconds now) (has_more content) content.entries
 
 unfoldable pub opening : List ℕ
 opening = codes "<svg viewBox=\"0 0 3600 1\" preserveAspectRatio=\"none\" role=\"img\" aria-label=\"the last hour\">"
@@ -86,17 +88,9 @@ picture now leads content = opening ++ rectangles now leads content ++ codes "</
 
 -- Restarts
 
--- an hour, in nanoseconds
-abbrev pub hour : ℕ
-hour = 3600 * 10 ^ 9
-
--- whether a label is in the last hour
-abbrev pub is_recent : (now label : Tai64n) → Bool
-is_recent now label = nat_le (nanos label) (nanos now) && nat_le (nanos now) (nanos label + hour)
-
 -- a start in the last hour, after another process
 abbrev pub is_restart : (now : Tai64n) (ran : Bool) → Event → Bool
-is_restart now ran (Started pid label) = ran && is_recent now label
+is_restart now ran (Started pid label) = ran && is_recent now HOUR label
 is_restart now ran other = false
 
 -- whether a process has run, after one more event
@@ -114,14 +108,8 @@ restarts now ran (event ∷ events) =
 abbrev pub ran_before : Content → Bool
 ran_before content = nat_le 1 content.base.status.pid || has_more content
 
--- Whether the entries have all restarts of the last hour: nothing came before them, or the last change of process
--- before them is older.
-abbrev pub reaches_back : (now : Tai64n) → Content → Bool
-reaches_back now content =
-    (content.folded == 0) || nat_lt (nanos content.base.status.label + hour) (nanos now)
-
 -- the restarts in the last hour; if the trace may not have all of them, the least number
 unfoldable pub restarts_text : (now : Tai64n) (leads : Bool) → Content → List ℕ
 restarts_text now leads content =
-    (if leads && reaches_back now content then [] else codes "at least ")
+    (if leads && reaches_back content HOUR now then [] else codes "at least ")
     ++ decimal (restarts now (ran_before content) content.entries)

@@ -1,12 +1,12 @@
 //! The picture of the last hour of a service, and its restarts.
 ghost use Rattle.std.specs.Prelude.{◌≡◌, ◌++◌, ◌≤◌, ◌<◌, ◌^◌, flat_map, OnOk};
-ghost use Rattle.cmd_why.specs.Facts.{nanos};
+ghost use Rattle.tai_status.specs.Label.{nanoseconds};
 ghost use Rattle.cmd_page.specs.Picture.{class_of, death_text, deaths, extent, has_more, has_run, is_asked};
-ghost use Rattle.cmd_page.specs.Picture.{is_recent, is_restart, mark, opening, picture, place, ran_before};
-ghost use Rattle.cmd_page.specs.Picture.{reaches_back, rectangle, rectangles, restarts, restarts_text, stretch_text};
+ghost use Rattle.cmd_page.specs.Picture.{is_restart, mark, opening, picture, place, ran_before};
+ghost use Rattle.cmd_page.specs.Picture.{rectangle, rectangles, restarts, restarts_text, stretch_text};
 
 use crate::text::{push_number, push_text};
-use cmd_why::{ShownState, Stretch, is_signal, nanos, stretches_of};
+use cmd_why::{ShownState, Stretch, is_recent, is_signal, nanoseconds, reaches_back, stretches_of};
 use std::alloc::{AllocError, Allocator};
 use sup_core::Event;
 use sup_trace::TraceText;
@@ -18,10 +18,11 @@ const AXIS: u64 = 3600;
 /// The width of the mark of a death.
 const MARK: u64 = 12;
 
-/// The nanoseconds of a second, and of an hour.
+/// The nanoseconds of a second.
 const SECOND: u128 = 1_000_000_000;
 
-const HOUR: u128 = 3_600_000_000_000;
+/// The seconds before the clock reading in which restarts are counted.
+const HOUR: u32 = 3600;
 
 /// Returns the place of a moment in a picture, in whole seconds. What is more than an hour ago is at its left end.
 fn place(now: u128, moment: u128) -> u64
@@ -133,7 +134,7 @@ fn push_death<A: Allocator>(
     ensures { OnOk result (out.new.items ≡ out.old.items ++ death_text now asked event.now) }
 {
     match event {
-        Event::Death { label } if !asked => push_mark(out, place(now, nanos(label))),
+        Event::Death { label } if !asked => push_mark(out, place(now, nanoseconds(label))),
         _ => Ok(()),
     }
 }
@@ -174,8 +175,8 @@ fn push_rectangles<A: Allocator + Clone, B: Allocator>(
     ensures { OnOk result (out.new.items ≡ out.old.items ++ rectangles now.now leads content.now) }
 {
     let stretches = stretches_of(alloc.clone()?, content, leads, now)?;
-    push_stretches(out, nanos(now), &stretches)?;
-    push_deaths(out, nanos(now), has_more(content), content.entries())
+    push_stretches(out, nanoseconds(now), &stretches)?;
+    push_deaths(out, nanoseconds(now), has_more(content), content.entries())
 }
 
 /// Returns the beginning of a picture.
@@ -203,19 +204,12 @@ pub fn push_picture<A: Allocator + Clone, B: Allocator>(
     push_text(out, "</svg>")
 }
 
-/// Returns whether a label is in the hour before a clock reading.
-fn is_recent(now: &Label, label: &Label) -> bool
-    ensures { result ≡ is_recent now.now label.now }
-{
-    nanos(label) <= nanos(now) && nanos(now) <= nanos(label) + HOUR
-}
-
 /// Returns whether an event is a start in the last hour, after another process.
 fn is_restart(now: &Label, ran: bool, event: &Event) -> bool
     ensures { result ≡ is_restart now.now ran event.now }
 {
     match event {
-        Event::Started { label, .. } => ran && is_recent(now, label),
+        Event::Started { label, .. } => ran && is_recent(now, HOUR, label),
         _ => false,
     }
 }
@@ -252,14 +246,6 @@ fn ran_before<A: Allocator>(content: &TraceText<A>) -> bool
     content.base().view().pid >= 1 || has_more(content)
 }
 
-/// Returns whether the entries of a trace have all restarts of the last hour.
-fn reaches_back<A: Allocator>(now: &Label, content: &TraceText<A>) -> bool
-    ensures { result ≡ reaches_back now.now content.now }
-{
-    let label = content.base().view().label;
-    content.folded() == 0 || nanos(&label) + HOUR < nanos(now)
-}
-
 /// Writes the number of restarts in the last hour, or the least number if the trace may not have all of them.
 #[tactic(auto, unfolding(crate::specs::Picture::restarts_text))]
 pub fn push_restarts<A: Allocator, B: Allocator>(
@@ -270,7 +256,7 @@ pub fn push_restarts<A: Allocator, B: Allocator>(
 ) -> Result<(), AllocError>
     ensures { OnOk result (out.new.items ≡ out.old.items ++ restarts_text now.now leads content.now) }
 {
-    if !(leads && reaches_back(now, content)) {
+    if !(leads && reaches_back(content, HOUR, now)) {
         push_text(out, "at least ")?;
     }
     push_number(out, restarts(now, ran_before(content), content.entries()))

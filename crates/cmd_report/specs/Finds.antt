@@ -10,18 +10,18 @@ use Rattle.svc_client.specs.declared.notice.Notice.TheVariants as notice
 use Rattle.cmd_why.specs.Why.{ReadsExit}
 use Rattle.svc_record.specs.declared.counts.Counts.{Counts}
 use Rattle.svc_record.specs.declared.exit.Exit.{Exit}
-use Rattle.cmd_report.specs.Counts.{counts_in}
+use Rattle.svc_record.specs.Counts.{IsCountsIn}
 use Rattle.cmd_report.specs.declared.found.FoundService.{FoundService}
 
--- the counts in the text of a file, if it could be read
-abbrev pub counts_of : (text : Option (List ℕ)) → Option Counts
-counts_of None = None
-counts_of (Some text) = counts_in text
+-- What the file `counts` says, if it could be read. None if it is not the line of any counts.
+abbrev pub AreCountsIn : (text : Option (List ℕ)) → Option Counts → Type 0
+AreCountsIn None counts = counts ≡ None
+AreCountsIn (Some text) counts = IsCountsIn text counts
 
 -- The file `counts` of the service in a folder was read, and says this.
 pub record ReadsCounts (folder : List ℕ) (counts : Option Counts) (past now : Option (List Call)) : Type 0 where
   pub text : Option (List ℕ)
-  pub says : counts ≡ counts_of text
+  pub says : AreCountsIn text counts
   pub asked : Extended past now (ReadNotice folder notice.Counts text ∷ [])
 
 -- The counts were read, and then the last end.

@@ -1,7 +1,6 @@
 pub mod Json
 pub mod Laws
 pub mod Ends
-pub mod Counts
 pub mod Metrics
 pub mod Finds
 pub mod JsonEnds

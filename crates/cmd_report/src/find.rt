@@ -3,21 +3,20 @@ ghost use Rattle.std.specs.Prelude.{◌≡◌, IfOk, OnErr};
 ghost use Rattle.tai_status.specs.Words.{texts};
 ghost use Rattle.cmd_report.specs.Finds.{FindsFront, FindsOne, FindsWords, ReadsCounts, SeeksPast};
 
-use crate::counts::counts_in;
 use crate::found::FoundService;
 use cmd_svc::{ServiceLook, look_at};
 use cmd_why::read_exit;
 use std::alloc::{AllocError, Allocator};
 use svc_client::{Notice, Observer, Services};
-use svc_record::{Counts, Exit};
+use svc_record::{Counts, Exit, read_counts};
 use tai_status::TimeSource;
 
 /// Reads what the file `counts` of the service in a folder says, if it can be read.
-fn read_counts<S: Services>(services: &mut S, folder: &str) -> Option<Counts>
+fn counts_of<S: Services>(services: &mut S, folder: &str) -> Option<Counts>
     ensures { ReadsCounts folder.now result (S.calls services.old) (S.calls services.new) }
 {
     match services.read_notice(folder, Notice::Counts) {
-        Some(text) => counts_in(text.as_slice()),
+        Some(text) => read_counts(text.as_slice()),
         None => None,
     }
 }
@@ -32,7 +31,7 @@ fn read_past<S: Services>(
 {
     match look {
         ServiceLook::Standing { .. } => {
-            let counts = read_counts(services, folder);
+            let counts = counts_of(services, folder);
             (counts, read_exit(services, folder))
         }
         ServiceLook::Unreached(_) | ServiceLook::Unread | ServiceLook::Bad(_) => (None, None),

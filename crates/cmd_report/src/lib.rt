@@ -3,7 +3,6 @@
 #![tactic(auto)]
 
 mod command;
-mod counts;
 mod find;
 mod found;
 mod laws;
@@ -14,7 +13,6 @@ mod report;
 mod samples;
 
 pub use command::run_report;
-pub use counts::counts_in;
 pub use find::find_one;
 pub use found::FoundService;
 pub use laws::{labels_read, same_words};

@@ -11,6 +11,7 @@ use Rattle.tai_status.specs.declared.phase.Phase.{Phase}
 use Rattle.tai_status.specs.declared.phase.Phase.TheVariants as phase
 use Rattle.tai_status.specs.declared.record.Want.{Want}
 use Rattle.tai_status.specs.declared.record.Want.TheVariants.{Up, Down, Once}
+use Rattle.svc_record.specs.Opening.{exiting_in}
 use Rattle.cmd_svc.specs.Course.{course_note}
 use Rattle.cmd_svc.specs.declared.course.Course.{Course}
 
@@ -60,10 +61,6 @@ abbrev pub phase_notes : Loaded → List ℕ
 phase_notes (Old status) = []
 phase_notes (New full) = phase_note full.phase
 
-abbrev pub is_exiting : Loaded → Bool
-is_exiting (Old status) = false
-is_exiting (New full) = full.exiting
-
 -- what a status says about the service in this folder
 abbrev pub plain_line : List ℕ → Status → Bool → Tai64n → List ℕ
 plain_line folder status normally_up now =
@@ -77,5 +74,5 @@ abbrev pub status_line : List ℕ → Loaded → Bool → Tai64n → Course → 
 status_line folder loaded normally_up now course =
     plain_line folder (status_in loaded) normally_up now
     ++ phase_notes loaded
-    ++ note (is_exiting loaded) (codes ", exiting")
+    ++ note (exiting_in loaded) (codes ", exiting")
     ++ course_note course now

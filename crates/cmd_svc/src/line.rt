@@ -1,5 +1,6 @@
 ghost use Rattle.std.specs.Prelude.{◌≡◌, ◌++◌, string_bytes, decimal, codes, IfOk, OnOk};
-ghost use Rattle.cmd_svc.specs.Line.{status_line, is_running, is_exiting, state_text, normal_notes, phase_notes};
+ghost use Rattle.svc_record.specs.Opening.{exiting_in};
+ghost use Rattle.cmd_svc.specs.Line.{status_line, is_running, state_text, normal_notes, phase_notes};
 ghost use Rattle.cmd_svc.specs.Line.{want_notes, wants_up, note};
 
 use crate::course::{Course, push_course};
@@ -136,7 +137,7 @@ fn phase_note(loaded: &Loaded) -> &'static str
 
 /// Returns the note for a supervise that is to end.
 fn exiting_note(loaded: &Loaded) -> &'static str
-    ensures { result.now ≡ note (is_exiting loaded.now) (codes ", exiting") }
+    ensures { result.now ≡ note (exiting_in loaded.now) (codes ", exiting") }
 {
     match loaded {
         Loaded::New(full) if full.exiting => ", exiting",

@@ -2,7 +2,7 @@
 -- entries.
 use Rattle.std.specs.Prelude.{ℕ, ◌+◌, ◌-◌, ◌*◌, ◌/◌, ◌^◌, nat_le, nat_lt, ◌==◌, ◌&&◌, ◌||◌, not, Bool, true, false}
 use Rattle.std.specs.Prelude.{if◌then◌else◌, List, [], ◌∷◌, Option, Some, None, count_by}
-use Rattle.tai_status.specs.Label.{Tai64n}
+use Rattle.tai_status.specs.Label.{Tai64n, nanoseconds}
 use Rattle.tai_status.specs.Record.{Status}
 use Rattle.sup_core.specs.declared.event.Event.{Event}
 use Rattle.sup_core.specs.declared.event.Event.TheVariants.{Byte, Started, StartFailed, Death}
@@ -10,30 +10,32 @@ use Rattle.sup_trace.specs.Content.{Content, replay_of}
 use Rattle.cmd_why.specs.declared.entries.Kind.TheVariants.{Start, Death as OfDeath, Attempt, Control, Signal, Want}
 use Rattle.cmd_why.specs.declared.facts.EndedProcess.{EndedProcess}
 use Rattle.cmd_why.specs.declared.facts.Facts.{Facts}
+use Rattle.cmd_why.specs.declared.facts.TheConstants.{MINUTE}
 use Rattle.cmd_why.specs.Entries.{has, last_of, behind_last, before_last, byte_in}
 
 -- Times
 
--- nanoseconds since the beginning of labels
-abbrev pub nanos : Tai64n → ℕ
-nanos label = label.sec * 10 ^ 9 + label.nano
-
 -- whole tenths of a second from one label to another, or 0 if the other is earlier
 abbrev pub tenths_between : (from to : Tai64n) → ℕ
-tenths_between from to = (nanos to - nanos from) / 10 ^ 8
+tenths_between from to = (nanoseconds to - nanoseconds from) / 10 ^ 8
 
--- 60 seconds, in nanoseconds; and whether two labels are the same
-abbrev pub minute : ℕ
-minute = 60 * 10 ^ 9
+-- the time that is so many seconds after a label, in nanoseconds; and whether two labels are the same
+abbrev pub nanoseconds_after : Tai64n → (seconds : ℕ) → ℕ
+nanoseconds_after label seconds = nanoseconds label + seconds * 10 ^ 9
 
 abbrev pub same_label : Tai64n → Tai64n → Bool
 same_label a b = (a.sec == b.sec) && (a.nano == b.nano)
 
 -- Starts
 
+-- whether a label is in so many seconds before the clock reading
+abbrev pub is_recent : (now : Tai64n) (seconds : ℕ) (label : Tai64n) → Bool
+is_recent now seconds label =
+    nat_le (nanoseconds label) (nanoseconds now) && nat_le (nanoseconds now) (nanoseconds_after label seconds)
+
 -- a start with a label in the 60 seconds before the clock reading
 abbrev pub is_recent_start : (now : Tai64n) → Event → Bool
-is_recent_start now (Started pid label) = nat_le (nanos label) (nanos now) && nat_le (nanos now) (nanos label + minute)
+is_recent_start now (Started pid label) = is_recent now MINUTE label
 is_recent_start now other = false
 
 -- how many starts there were in the last 60 seconds, as far as entries say
@@ -58,10 +60,11 @@ unasked_starts now asked [] = 0
 unasked_starts now asked (event ∷ events) =
     (if is_unasked now asked event then 1 else 0) + unasked_starts now (is_asked asked event) events
 
--- Every start in the last 60 seconds is among the entries: nothing was folded, or the last change of process before the
--- entries is older.
-abbrev pub reaches_back : Content → (now : Tai64n) → Bool
-reaches_back content now = (content.folded == 0) || nat_lt (nanos content.base.status.label + minute) (nanos now)
+-- Every start in so many seconds before the clock reading is among the entries: nothing was folded, or the last change
+-- of process before the entries is older.
+abbrev pub reaches_back : Content → (seconds : ℕ) (now : Tai64n) → Bool
+reaches_back content seconds now =
+    (content.folded == 0) || nat_lt (nanoseconds_after content.base.status.label seconds) (nanoseconds now)
 
 -- Processes
 
@@ -114,7 +117,7 @@ facts_of content status now = record {
   leads = leads_to content status;
   starts = recent_starts now content.entries;
   unasked = unasked_starts now false content.entries;
-  reaches = reaches_back content now;
+  reaches = reaches_back content MINUTE now;
   sent = byte_in (last_of Signal (behind_last Start content.entries));
   ended = last_ended content;
   failed = is_failure (last_of Attempt content.entries);

@@ -1,10 +1,10 @@
 -- The last end of a service's process, from its trace and from its file `exit`: the later of the two.
 use Rattle.std.specs.Prelude.{nat_lt, ◌==◌, ◌&&◌, Bool, if◌then◌else◌, Option, Some, None}
 use Rattle.std.specs.Prelude.{option_map}
-use Rattle.tai_status.specs.Label.{Tai64n}
+use Rattle.tai_status.specs.Label.{Tai64n, nanoseconds}
 use Rattle.svc_record.specs.declared.ending.Ending.{Ending}
 use Rattle.svc_record.specs.declared.exit.Exit.{Exit}
-use Rattle.cmd_why.specs.Facts.{nanos, same_label}
+use Rattle.cmd_why.specs.Facts.{same_label}
 use Rattle.cmd_why.specs.declared.facts.EndedProcess.{EndedProcess}
 use Rattle.cmd_why.specs.declared.facts.Facts.{Facts}
 use Rattle.cmd_why.specs.declared.last_ends.LastEnd.{LastEnd}
@@ -22,7 +22,7 @@ how exit ended = if is_of_end exit ended then Some exit.ending else None
 
 -- whether an exit is later than an end in the trace
 abbrev pub is_later : Exit → EndedProcess → Bool
-is_later exit ended = nat_lt (nanos ended.label) (nanos exit.label)
+is_later exit ended = nat_lt (nanoseconds ended.label) (nanoseconds exit.label)
 
 -- the later of two ends, or the one in the trace if both are at the same time
 abbrev pub later : Exit → Option EndedProcess → LastEnd

@@ -2,7 +2,7 @@
 use Rattle.std.specs.Prelude.{ℕ, ◌/◌, ◌%◌, nat_le, ◌==◌, ◌&&◌, not, Bool, false, if◌then◌else◌, List, [], ◌∷◌}
 use Rattle.std.specs.Prelude.{◌++◌, codes}
 use Rattle.std.specs.Prelude.{decimal, Option, Some, None}
-use Rattle.tai_status.specs.Label.{Tai64n}
+use Rattle.tai_status.specs.Label.{Tai64n, nanoseconds}
 use Rattle.tai_status.specs.Record.{Status}
 use Rattle.tai_status.specs.Loading.{status_in}
 use Rattle.tai_status.specs.declared.loading.Loaded.{Loaded}
@@ -24,7 +24,6 @@ use Rattle.cmd_why.specs.declared.facts.Facts.{Facts}
 use Rattle.cmd_why.specs.declared.last_ends.LastEnd.{LastEnd}
 use Rattle.cmd_why.specs.declared.last_ends.LastEnd.TheVariants.{Traced, Recorded}
 use Rattle.cmd_why.specs.Courses.{course_sentence}
-use Rattle.cmd_why.specs.Facts.{nanos}
 use Rattle.cmd_why.specs.LastEnd.{time_of_end}
 use Rattle.svc_record.specs.declared.exit.Exit.{Exit}
 
@@ -141,7 +140,7 @@ last_words (Recorded exit) = exit_words exit
 
 -- whether an end was before the running process began
 abbrev pub is_before : Status → LastEnd → Bool
-is_before status end = is_running status && nat_le (nanos (time_of_end end)) (nanos status.label)
+is_before status end = is_running status && nat_le (nanoseconds (time_of_end end)) (nanoseconds status.label)
 
 abbrev pub end_opening : (before : Bool) → List ℕ
 end_opening before = if before then codes " Before it process " else codes " Process "

@@ -3,7 +3,7 @@
 use Rattle.std.specs.Prelude.{ℕ, ◌+◌, ◌-◌, ◌*◌, ◌/◌, nat_lt, ◌&&◌, max, min, Bool, true, false, if◌then◌else◌, List}
 use Rattle.std.specs.Prelude.{[], ◌∷◌, ◌++◌, length, replicate, codes, Option, Some, None}
 use Rattle.std.specs.List.{flat_map, list_any, range_with_len}
-use Rattle.tai_status.specs.Label.{Tai64n}
+use Rattle.tai_status.specs.Label.{Tai64n, nanoseconds}
 use Rattle.tai_status.specs.Record.{Status}
 use Rattle.tai_status.specs.declared.phase.Phase.{Phase}
 use Rattle.tai_status.specs.declared.phase.Phase.TheVariants as phase
@@ -14,7 +14,6 @@ use Rattle.sup_core.specs.declared.event.Event.{Event}
 use Rattle.sup_core.specs.declared.event.Event.TheVariants.{Byte, Started, StartFailed, Death, Clock}
 use Rattle.sup_trace.specs.Content.{Content}
 use Rattle.cmd_svc.specs.Line.{is_running}
-use Rattle.cmd_why.specs.Facts.{nanos}
 use Rattle.cmd_why.specs.declared.lines.Drawing.{Drawing}
 use Rattle.cmd_why.specs.declared.lines.Drawing.TheVariants as drawing
 use Rattle.cmd_why.specs.declared.timeline.ShownState.{ShownState}
@@ -58,7 +57,7 @@ label_in (Clock label) = Some label
 -- When an entry with this label counts, after the last stretch so far: not before that stretch, because a clock may be
 -- set back, and not after the clock reading.
 abbrev pub moment : (now : ℕ) → Stretch → Tai64n → ℕ
-moment now last label = min now (max last.from (nanos label))
+moment now last label = min now (max last.from (nanoseconds label))
 
 -- the stretch that ends at an entry, if the entry has a label
 abbrev pub ended_with : (now : ℕ) → Stretch → Option Tai64n → List Stretch
@@ -148,7 +147,8 @@ bar from width drawn = flat_map (column_sign from width drawn) (range_with_len 0
 
 -- when the picture begins: at the label of the machine before the entries, or at the clock reading if that is earlier
 abbrev pub left_end : Content → (now : Tai64n) → Tai64n
-left_end content now = if nat_lt (nanos now) (nanos content.base.status.label) then now else content.base.status.label
+left_end content now =
+    if nat_lt (nanoseconds now) (nanoseconds content.base.status.label) then now else content.base.status.label
 
 -- the whole picture as one stretch, as if there were no entries
 abbrev pub before_entries : Content → (from now : ℕ) → Stretch
@@ -160,8 +160,8 @@ stretches_of content leads from now = stretches now leads content.base (before_e
 -- the picture of a trace at a clock reading
 abbrev pub bar_of : Content → (leads : Bool) → (now : Tai64n) → List ℕ
 bar_of content leads now =
-    bar (nanos (left_end content now)) (width (nanos (left_end content now)) (nanos now))
-    (stretches_of content leads (nanos (left_end content now)) (nanos now))
+    bar (nanoseconds (left_end content now)) (width (nanoseconds (left_end content now)) (nanoseconds now))
+    (stretches_of content leads (nanoseconds (left_end content now)) (nanoseconds now))
 
 -- Lines
 

@@ -4,9 +4,11 @@ ghost use Rattle.std.specs.List.{Contains};
 ghost use Rattle.sup_core.specs.declared.event.Event.TheVariants as event;
 ghost use Rattle.cmd_why.specs.declared.entries.Kind.TheVariants as kind;
 ghost use Rattle.cmd_why.specs.Entries.{byte_in, behind_last, has, last_of};
-ghost use Rattle.cmd_why.specs.Facts.{ended_at, ended_by, facts_of, has_not_run, is_failure, is_recent_start};
+ghost use Rattle.cmd_why.specs.Facts.{ended_at, ended_by, facts_of, has_not_run, is_failure, is_recent};
 ghost use Rattle.cmd_why.specs.Facts.{is_asked, is_unasked, label_of_start, unasked_starts};
-ghost use Rattle.cmd_why.specs.Facts.{last_ended, leads_to, nanos, pid_of_start, reaches_back, recent_starts};
+ghost use Rattle.cmd_why.specs.Facts.{is_recent_start, last_ended, leads_to, nanoseconds_after, pid_of_start};
+ghost use Rattle.cmd_why.specs.Facts.{reaches_back, recent_starts};
+ghost use Rattle.tai_status.specs.Label.{nanoseconds};
 ghost use Rattle.cmd_why.specs.Facts.{same_label, tenths_between};
 
 use crate::entries::{Kind, before_last, behind_last, last_of};
@@ -15,8 +17,8 @@ use sup_core::Event;
 use sup_trace::{TraceText, replay};
 use tai_status::{Label, View};
 
-/// The nanoseconds of 60 seconds.
-const MINUTE: u128 = 60_000_000_000;
+/// The seconds before the clock reading in which starts are counted.
+const MINUTE: u32 = 60;
 
 /// The number of starts within 60 seconds, which nobody asked for, that count as flapping.
 pub const FLAPPING: u64 = 5;
@@ -60,8 +62,8 @@ pub struct Facts {
 }
 
 /// Returns the nanoseconds since the beginning of labels.
-pub fn nanos(label: &Label) -> u128
-    ensures value { result ≡ nanos label.now }
+pub fn nanoseconds(label: &Label) -> u128
+    ensures value { result ≡ nanoseconds label.now }
     ensures bound { result < 2 ^ 100 }
 {
     u128::from(label.sec) * 1_000_000_000 + u128::from(label.nano)
@@ -71,7 +73,7 @@ pub fn nanos(label: &Label) -> u128
 fn tenths_between(from: &Label, to: &Label) -> u128
     ensures { result ≡ tenths_between from.now to.now }
 {
-    nanos(to).saturating_sub(nanos(from)) / 100_000_000
+    nanoseconds(to).saturating_sub(nanoseconds(from)) / 100_000_000
 }
 
 /// Returns whether two labels are the same.
@@ -81,16 +83,27 @@ pub(crate) fn same_label(a: &Label, b: &Label) -> bool
     a.sec == b.sec && a.nano == b.nano
 }
 
+/// Returns the time that is so many seconds after a label, in nanoseconds.
+fn nanoseconds_after(label: &Label, seconds: u32) -> u128
+    ensures { result ≡ nanoseconds_after label.now seconds }
+{
+    nanoseconds(label) + u128::from(seconds) * 1_000_000_000
+}
+
+/// Returns whether a label is in so many seconds before the clock reading.
+pub fn is_recent(now: &Label, seconds: u32, label: &Label) -> bool
+    ensures { result ≡ is_recent now.now seconds label.now }
+{
+    let clock = nanoseconds(now);
+    nanoseconds(label) <= clock && clock <= nanoseconds_after(label, seconds)
+}
+
 /// Returns whether an entry is a start with a label in the 60 seconds before the clock reading.
 fn is_recent_start(now: &Label, event: &Event) -> bool
     ensures { result ≡ is_recent_start now.now event.now }
 {
     match event {
-        Event::Started { label, .. } => {
-            let at = nanos(label);
-            let clock = nanos(now);
-            at <= clock && clock <= at + MINUTE
-        }
+        Event::Started { label, .. } => is_recent(now, MINUTE, label),
         _ => false,
     }
 }
@@ -143,12 +156,12 @@ pub fn unasked_starts(now: &Label, entries: &[Event]) -> u64
     count
 }
 
-/// Returns whether every start in the last 60 seconds is among the entries.
-fn reaches_back<A: Allocator>(content: &TraceText<A>, now: &Label) -> bool
-    ensures { result ≡ reaches_back content.now now.now }
+/// Returns whether every start in so many seconds before the clock reading is among the entries.
+pub fn reaches_back<A: Allocator>(content: &TraceText<A>, seconds: u32, now: &Label) -> bool
+    ensures { result ≡ reaches_back content.now seconds now.now }
 {
     let label = content.base().view().label;
-    content.folded() == 0 || nanos(&label) + MINUTE < nanos(now)
+    content.folded() == 0 || nanoseconds_after(&label, seconds) < nanoseconds(now)
 }
 
 /// Returns the control byte of an event, if it is one.
@@ -277,7 +290,7 @@ pub fn facts_of<A: Allocator>(content: &TraceText<A>, status: &View, now: &Label
         leads: leads_to(content, status),
         starts: recent_starts(now, entries),
         unasked: unasked_starts(now, entries),
-        reaches: reaches_back(content, now),
+        reaches: reaches_back(content, MINUTE, now),
         sent: last_signal(entries),
         ended: last_ended(content),
         failed: is_failure(last_of(Kind::Attempt, entries)),

@@ -4,7 +4,7 @@ ghost use Rattle.std.specs.Option.{option_copied};
 ghost use Rattle.cmd_why.specs.LastEnd.{ended_in, how, is_later, is_of_end, last_end, later};
 ghost use Rattle.cmd_why.specs.LastEnd.{time_of_end, traced_end};
 
-use crate::facts::{EndedProcess, Facts, nanos, same_label};
+use crate::facts::{EndedProcess, Facts, nanoseconds, same_label};
 use svc_record::{Ending, Exit};
 use tai_status::Label;
 
@@ -39,7 +39,7 @@ fn how(exit: &Exit, ended: &EndedProcess) -> Option<Ending>
 fn is_later(exit: &Exit, ended: &EndedProcess) -> bool
     ensures { result ≡ is_later exit.now ended.now }
 {
-    nanos(&ended.label) < nanos(&exit.label)
+    nanoseconds(&ended.label) < nanoseconds(&exit.label)
 }
 
 /// Returns the later of two ends, or the one in the trace if both are at the same time.

@@ -18,8 +18,8 @@ mod why;
 
 pub use entries::{Kind, before_last, behind_last, is_signal, last_of};
 pub use facts::{
-    EndedProcess, FLAPPING, Facts, facts_of, last_signal, last_want, leads_to, nanos,
-    recent_starts, unasked_starts,
+    EndedProcess, FLAPPING, Facts, facts_of, is_recent, last_signal, last_want, leads_to,
+    nanoseconds, reaches_back, recent_starts, unasked_starts,
 };
 pub use last_ends::{LastEnd, last_end};
 pub use lines::{

@@ -13,7 +13,7 @@ ghost use Rattle.cmd_why.specs.Sentences.{tenths_text};
 ghost use Rattle.std.specs.Option.{option_copied};
 
 use crate::courses::push_course;
-use crate::facts::{EndedProcess, FLAPPING, Facts, nanos};
+use crate::facts::{EndedProcess, FLAPPING, Facts, nanoseconds};
 use crate::last_ends::{LastEnd, time_of_end};
 use cmd_svc::{Course, is_running, normal_note, paused_note, push_number};
 use std::alloc::{AllocError, Allocator};
@@ -418,7 +418,7 @@ fn push_last_words<A: Allocator>(out: &mut String<A>, end: &LastEnd) -> Result<(
 fn is_before(status: &View, end: &LastEnd) -> bool
     ensures { result ≡ is_before status.now end.now }
 {
-    is_running(status) && nanos(&time_of_end(end)) <= nanos(&status.label)
+    is_running(status) && nanoseconds(&time_of_end(end)) <= nanoseconds(&status.label)
 }
 
 /// Returns how the sentence about the last end begins.

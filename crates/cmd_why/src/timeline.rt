@@ -2,13 +2,13 @@
 ghost use Rattle.std.specs.Prelude.{◌≡◌, ◌≤◌, ◌<◌, ◌++◌, ◌^◌, length, IfOk, OnOk};
 ghost use Rattle.std.specs.List.{AllByRecursion};
 ghost use Rattle.sup_core.specs.Rules.{IsEvent};
-ghost use Rattle.cmd_why.specs.Facts.{nanos};
+ghost use Rattle.tai_status.specs.Label.{nanoseconds};
 ghost use Rattle.cmd_why.specs.Timeline.{alone, bar, bar_of, behind, edge, ended_with, has_part, label_in, left_end};
 ghost use Rattle.cmd_why.specs.Timeline.{moment, same, shown_before, shown_in, shown_of, sign, stands, stretches};
 ghost use Rattle.cmd_why.specs.Timeline.{stretches_of};
 ghost use Rattle.cmd_why.specs.Timeline.{tail, throughout, width};
 
-use crate::facts::nanos;
+use crate::facts::nanoseconds;
 use arrayvec::ArrayString;
 use cmd_svc::is_running;
 use std::alloc::{AllocError, Allocator};
@@ -96,7 +96,7 @@ fn label_in(event: &Event) -> Option<Label>
 fn moment(now: u128, last: &Stretch, label: &Label) -> u128
     ensures { result ≡ moment now last.now label.now }
 {
-    last.from.max(nanos(label)).min(now)
+    last.from.max(nanoseconds(label)).min(now)
 }
 
 /// Adds the stretch that ends at an entry, if the entry has a label.
@@ -291,7 +291,7 @@ pub(crate) fn left_end<A: Allocator>(content: &TraceText<A>, now: &Label) -> Lab
     ensures { result ≡ left_end content.now now.now }
 {
     let label = content.base().view().label;
-    if nanos(now) < nanos(&label) {
+    if nanoseconds(now) < nanoseconds(&label) {
         *now
     } else {
         label
@@ -306,10 +306,10 @@ pub fn stretches_of<A: Allocator, B: Allocator>(
     now: &Label,
 ) -> Result<Vec<Stretch, A>, AllocError>
     ensures { IfOk result (λ drawn. drawn.items
-        ≡ stretches_of content.now leads (nanos (left_end content.now now.now)) (nanos now.now)) }
+        ≡ stretches_of content.now leads (nanoseconds (left_end content.now now.now)) (nanoseconds now.now)) }
 {
-    let from = nanos(&left_end(content, now));
-    let until = nanos(now);
+    let from = nanoseconds(&left_end(content, now));
+    let until = nanoseconds(now);
     let base = content.base();
     let last = Stretch {
         from,
@@ -340,8 +340,8 @@ pub fn bar_of<A: Allocator, B: Allocator>(
 ) -> Result<Bar, AllocError>
     ensures { IfOk result (λ bar. bar.bytes ≡ bar_of content.now leads now.now) }
 {
-    let from = nanos(&left_end(content, now));
-    let width = width(from, nanos(now));
+    let from = nanoseconds(&left_end(content, now));
+    let width = width(from, nanoseconds(now));
     let drawn = stretches_of(alloc, content, leads, now)?;
     Ok(bar(from, width, &drawn))
 }

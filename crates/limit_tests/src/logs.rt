@@ -1,6 +1,6 @@
 ghost use Rattle.std.specs.Prelude.{◌≡◌, ◌∷◌, [], length, IfOk};
 
-use mlog_core::{Counts, RunFault, run};
+use mlog_core::{RunCounts, RunFault, run};
 use mlog_files::{LogFiles, MemoryStore};
 use mlog_script::Script;
 use std::alloc::{AllocError, Allocator, Global};
@@ -46,7 +46,7 @@ fn run_over<A: Allocator + Clone, B: Allocator + Clone>(
     script: &Script,
     text: &str,
     store: &mut MemoryStore<B>,
-) -> Result<Result<Counts, RunFault>, Fail>
+) -> Result<Result<RunCounts, RunFault>, Fail>
     requires { length store.old.logs ≡ 1 }
     ensures { length store.new.logs ≡ 1 }
 {
@@ -70,7 +70,7 @@ fn counts_what_it_finished_and_removed(rt: HostRuntime) -> Result<(), Fail> {
     text.push_str("\n")?;
     let mut store = one_log(rt.alloc())?;
     let ran = run_over(rt.alloc(), &script(rt.alloc())?, text.as_str(), &mut store)?;
-    let wanted = Counts {
+    let wanted = RunCounts {
         lines: 1,
         finished: 244,
         removed: 235,
@@ -83,7 +83,7 @@ fn counts_what_it_finished_and_removed(rt: HostRuntime) -> Result<(), Fail> {
 }
 
 /// The counts of a run over a line of 5,000 bytes.
-const ONE_FILE: Counts = Counts {
+const ONE_FILE: RunCounts = RunCounts {
     lines: 1,
     finished: 1,
     removed: 0,

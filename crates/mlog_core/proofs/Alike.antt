@@ -27,7 +27,7 @@ use Rattle.mlog_line.specs.Reach.{Reaches, AllOrNone, logs_in}
 use Rattle.mlog_line.specs.declared.line_router.Reach.{Reach}
 use Rattle.mlog_line.specs.declared.line_router.Reach.TheVariants as code
 use Rattle.mlog_core.specs.Scene.{Scene, scene, IsIn, Went, WentUpTo, GoesOn, AreAlike, Feeds}
-use Rattle.mlog_core.specs.declared.feed.Lines.{Lines}
+use Rattle.mlog_core.specs.declared.feed.AlikeLines.{AlikeLines}
 use Rattle.mlog_core.specs.declared.feed.Fed.{Fed}
 use Rattle.mlog_core.proofs.Going.{Went-then, WentUpTo-then}
 use Rattle.mlog_core.proofs.Lines.{whole_end, whole_both, cut_one, first_line, text_turn}
@@ -211,7 +211,7 @@ alike_then script reach a b c xs ys m n k l =
 
 -- One more line of some bytes.
 pub alike_further : (script : List Act) (label : Tai64n) (a b c : Option (List Tai64n)) (bytes rest : List ℕ)
-    (at len m : ℕ) (ch : Chosen) (lines : Lines) (next : Reach)
+    (at len m : ℕ) (ch : Chosen) (lines : AlikeLines) (next : Reach)
     → rest ≡ take (length bytes - at) (drop at bytes) → lines.count ≡ m → (m ≡ 0 → at ≡ 0) → GoesOn lines next
     → AreAlike script lines.reach a b (take at bytes) m → IsPlain (take len rest) → (len < length rest)
     × (rest ≡ take len rest ++ 10 ∷ drop (len + 1) rest)

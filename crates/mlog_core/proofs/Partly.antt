@@ -6,11 +6,11 @@ use Rattle.mlog_files.specs.declared.tail.LogFault.{LogFault}
 use Rattle.mlog_files.specs.declared.tail.LogFault.TheVariants as log_fault
 use Rattle.mlog_core.specs.Run.{RunEnds}
 use Rattle.mlog_core.specs.Parts.{Play, world_at, RunsPart, RotatesNot, EndsBy}
-use Rattle.mlog_core.specs.declared.stream.Counts.{Counts}
+use Rattle.mlog_core.specs.declared.stream.RunCounts.{RunCounts}
 use Rattle.mlog_core.specs.declared.stream.RunFault.{RunFault}
 use Rattle.mlog_core.specs.declared.stream.RunFault.TheVariants as fault
 
-pub ran_part : (counts : Counts) (script : List Act) (old new : Play)
+pub ran_part : (counts : RunCounts) (script : List Act) (old new : Play)
     → RunEnds (Ok counts) script (world_at old) (world_at new) → IsRead new.feed.device
     → Works old.feed.device new.feed.device → new.feed.behind ≡ old.feed.behind → RunsPart script old new
 ran_part counts script old new ends read works behind =

@@ -29,7 +29,7 @@ use Rattle.mlog_core.specs.Run.{RunsLines, RunsUpTo}
 use Rattle.mlog_core.specs.Run.{given_in, IsBegun}
 use Rattle.mlog_core.specs.Scene.{scene, outputs_of, IsInLine}
 use Rattle.mlog_core.specs.Story.{Came, Done, Halted}
-use Rattle.mlog_core.specs.declared.stream.Counts.{Counts}
+use Rattle.mlog_core.specs.declared.stream.RunCounts.{RunCounts}
 use Rattle.mlog_core.specs.declared.stream.RunFault.{RunFault}
 use Rattle.mlog_core.specs.declared.stream.RunFault.TheVariants as fault
 
@@ -142,7 +142,7 @@ fold_map f g n (x ∷ xs) = fold_map f g (f n (g x)) xs
 -- The whole run
 
 pub runs_all : (script : List Act) (r p : Device) (old new : StoreState) (a b : Option (List Tai64n)) (p0 p1 : Place)
-    (n : ℕ) (counts : Counts)
+    (n : ℕ) (counts : RunCounts)
     → AreOpened script old.visible p0.tails → IsWritten p1.tails
     → Done script (scene None p0 old a) (scene None p1 new b) r p n
     → counts.lines ≡ n → counts.finished ≡ total_finished p1.tails → counts.removed ≡ total_removed p1.tails

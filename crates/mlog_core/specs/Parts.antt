@@ -7,7 +7,7 @@ use Rattle.mlog_files.specs.Store.{StoreState}
 use Rattle.mlog_core.specs.Feed.{Feed, OpensNext}
 use Rattle.mlog_core.specs.Run.{World, world, RunsAll, RunsLines, RunsUpTo}
 use Rattle.mlog_core.specs.Rotate.{Rotates, RotatesUpTo}
-use Rattle.mlog_core.specs.declared.stream.Counts.{Counts}
+use Rattle.mlog_core.specs.declared.stream.RunCounts.{RunCounts}
 use Rattle.mlog_core.specs.declared.stream.RunFault.{RunFault}
 use Rattle.mlog_core.specs.declared.stream.RunFault.TheVariants as fault
 use Rattle.mlog_files.specs.declared.tail.LogFault.{LogFault}
@@ -28,7 +28,7 @@ world_at p = world p.feed.device p.store p.readings
 
 -- All of the part was read and handed out.
 pub record RunsPart (script : List Act) (old new : Play) : Type 0 where
-  pub counts : Counts
+  pub counts : RunCounts
   pub runs : RunsAll script (world_at old) (world_at new) counts
   pub read : IsRead new.feed.device
   pub works : Works old.feed.device new.feed.device

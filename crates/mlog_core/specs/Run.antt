@@ -16,7 +16,7 @@ use Rattle.mlog_files.specs.Tails.{found}
 use Rattle.mlog_line.specs.Given.{Given, nothing, so_far}
 use Rattle.mlog_line.specs.Outputs.{GivenFront}
 use Rattle.mlog_core.specs.Feed.{Feed}
-use Rattle.mlog_core.specs.declared.stream.Counts.{Counts}
+use Rattle.mlog_core.specs.declared.stream.RunCounts.{RunCounts}
 use Rattle.mlog_core.specs.declared.stream.RunFault.{RunFault}
 use Rattle.mlog_core.specs.declared.stream.RunFault.TheVariants as fault
 
@@ -62,7 +62,7 @@ all_removed ends = fold (λ total end. min (2 ^ 64 - 1) (total + end.marks.remov
 
 -- All the input was handed out: each log's files went through the steps of its text, the alerts were alerted, and each
 -- status file was given its contents. The clock was read once for each line.
-pub record RunsAll (script : List Act) (old new : World) (counts : Counts) : Type 0 where
+pub record RunsAll (script : List Act) (old new : World) (counts : RunCounts) : Type 0 where
   pub bytes : List ℕ
   pub labels : List Tai64n
   pub stood : ℕ → Standing
@@ -148,7 +148,7 @@ pub record RunsUpTo (script : List Act) (old new : World) (why : RunFault) : Typ
 -- How a run ends. At Ok all the input was handed out. If the reader failed, what it gave was handed out. If the store
 -- failed, or a log has no label for an old file, a prefix of the steps is done. If memory was lacking, nothing was
 -- done.
-pub record RunEnds (result : Result Counts RunFault) (script : List Act) (old new : World) : Type 0 where
+pub record RunEnds (result : Result RunCounts RunFault) (script : List Act) (old new : World) : Type 0 where
   pub done : IfOk result (λ counts. RunsAll script old new counts)
   pub read : IsErrOf result fault.Read → RunsLines script old new
   pub store : IsErrOf result fault.Store → RunsUpTo script old new fault.Store
@@ -156,13 +156,13 @@ pub record RunEnds (result : Result Counts RunFault) (script : List Act) (old ne
   pub memory : IsErrOf result fault.OutOfMemory → new ≡ old
 
 -- The same, for a store and a clock that contracts see in this way.
-abbrev pub RunsTo : {S C : Type 0} (result : Result Counts RunFault) (script : List Act) (reader reads : Device)
+abbrev pub RunsTo : {S C : Type 0} (result : Result RunCounts RunFault) (script : List Act) (reader reads : Device)
     (state : S → StoreState) (store stored : S) (readings : C → Option (List Tai64n)) (clock read : C) → Type 0
 RunsTo result script reader reads state store stored readings clock read =
     RunEnds result script (world reader (state store) (readings clock)) (world reads (state stored) (readings read))
 
 -- The same, for the part of an input that is being read.
-abbrev pub PartRuns : {I S C : Type 0} (result : Result Counts RunFault) (script : List Act) (feed : I → Feed)
+abbrev pub PartRuns : {I S C : Type 0} (result : Result RunCounts RunFault) (script : List Act) (feed : I → Feed)
     (input inputs : I) (state : S → StoreState) (store stored : S) (readings : C → Option (List Tai64n))
     (clock read : C) → Type 0
 PartRuns result script feed input inputs state store stored readings clock read =

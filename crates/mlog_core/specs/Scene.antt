@@ -15,7 +15,7 @@ use Rattle.mlog_line.specs.Outputs.{Outputs, outputs, SameGiven, Grows, StopsAt}
 use Rattle.mlog_line.specs.Reach.{AllOrNone, logs_in}
 use Rattle.mlog_line.specs.declared.line_router.Reach.{Reach}
 use Rattle.mlog_core.specs.Run.{labels_of, given_in}
-use Rattle.mlog_core.specs.declared.feed.Lines.{Lines}
+use Rattle.mlog_core.specs.declared.feed.AlikeLines.{AlikeLines}
 use Rattle.mlog_core.specs.declared.feed.Taken.{Taken}
 use Rattle.mlog_core.specs.declared.feed.Fed.{Fed}
 
@@ -88,7 +88,7 @@ left_of label false = Some label
 
 -- A line with this reach can be added to some lines: it goes to all logs or to none, and if there are lines already,
 -- they go to the same logs.
-pub record GoesOn (lines : Lines) (next : Reach) : Type 0 where
+pub record GoesOn (lines : AlikeLines) (next : Reach) : Type 0 where
   pub alike : AllOrNone next
   pub same : 0 < lines.count → next ≡ lines.reach
 

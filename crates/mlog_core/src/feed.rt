@@ -101,7 +101,7 @@ fn feed_part<A: Allocator + Clone, B: Allocator + Clone, S: LogStore, C: TimeSou
 
 /// Some whole lines of one reach: how many bytes they have, and how many lines they are.
 #[derive(Clone, Copy)]
-pub struct Lines {
+pub struct AlikeLines {
     pub len: usize,
     pub count: u64,
     pub reach: Reach,
@@ -109,7 +109,7 @@ pub struct Lines {
 
 /// Returns whether a line can be added to some lines of one reach: it goes to all logs or to none, and if there are
 /// lines already, they go to the same logs.
-fn goes_on(lines: &Lines, next: Reach) -> bool
+fn goes_on(lines: &AlikeLines, next: Reach) -> bool
     ensures { result ≡ true → GoesOn lines.now next }
 {
     match next {
@@ -125,7 +125,7 @@ fn read_alike<A: Allocator + Clone, B: Allocator + Clone, C: TimeSource>(
     script: &Script<B>,
     clock: &mut C,
     bytes: &[u8],
-) -> Lines
+) -> AlikeLines
     requires fits { Fits router.old.chosen script.now }
     requires bare { 0 < length bytes.now → IsBare script.now }
 
@@ -140,7 +140,7 @@ fn read_alike<A: Allocator + Clone, B: Allocator + Clone, C: TimeSource>(
     ensures tails { router.new.tails ≡ router.old.tails }
     ensures fits { Fits router.new.chosen script.now }
 {
-    let mut lines = Lines {
+    let mut lines = AlikeLines {
         len: 0,
         count: 0,
         reach: Reach::Everywhere,
@@ -156,7 +156,7 @@ fn read_alike<A: Allocator + Clone, B: Allocator + Clone, C: TimeSource>(
             return lines;
         }
         clock.now();
-        lines = Lines {
+        lines = AlikeLines {
             len: lines.len + front.len + 1,
             count: lines.count + 1,
             reach,

@@ -15,5 +15,5 @@ mod turns;
 
 pub use laws::counts_of_a_run;
 pub use parted::PartedInput;
-pub use stream::{Counts, RunFault, run};
+pub use stream::{RunCounts, RunFault, run};
 pub use turns::run_parts;

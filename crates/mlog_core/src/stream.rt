@@ -20,7 +20,7 @@ use thiserror::Error;
 
 /// The counts of a run.
 #[derive(Clone, Copy, Debug, PartialEq, Eq)]
-pub struct Counts {
+pub struct RunCounts {
     /// How many lines there were.
     pub lines: u64,
 
@@ -61,7 +61,7 @@ pub fn run<A: Allocator + Clone, B: Allocator + Clone, D: Read, S: LogStore, C: 
     reader: &mut Input<D>,
     store: &mut S,
     clock: &mut C,
-) -> Result<Counts, RunFault>
+) -> Result<RunCounts, RunFault>
     // The store has the logs and status files of the script.
     requires logs { count_by is_log script.now ≤ (S.state store.old).logs }
     requires files { count_by is_file script.now ≤ (S.state store.old).status_files }
@@ -91,7 +91,7 @@ pub(crate) fn run_part<A, B, I, S, C>(
     input: &mut I,
     store: &mut S,
     clock: &mut C,
-) -> Result<Counts, RunFault>
+) -> Result<RunCounts, RunFault>
 where
     A: Allocator + Clone,
     B: Allocator + Clone,
@@ -123,7 +123,7 @@ where
         return Err(RunFault::OutOfMemory);
     };
     match run_lines(&mut router, script, input, store, clock) {
-        Ok(lines) => Ok(Counts {
+        Ok(lines) => Ok(RunCounts {
             lines,
             finished: router.finished(),
             removed: router.removed(),

@@ -3,6 +3,7 @@
 use Rattle.std.specs.Prelude.{ℕ, ◌+◌, ◌-◌, ◌*◌, ◌==◌, nat_le, nat_lt, Bool, true, false, ◌&&◌, ◌||◌, if◌then◌else◌}
 use Rattle.std.specs.Prelude.{List, [], ◌∷◌, length, bytes_eq, fold, unwrap_or, slice_get, Option, Some, None}
 use Rattle.std.specs.Prelude.{Result, Ok, Err}
+use Rattle.std.specs.Char.{is_ascii_digit}
 use Rattle.std.specs.List.{list_any, list_all, filter_map}
 use Rattle.std.specs.Option.{option_map}
 use Rattle.star_match.specs.Star.{has_adjacent_stars}
@@ -36,12 +37,9 @@ pub data Act : Type 0 where
 
 -- Words
 
-abbrev pub is_digit : ℕ → Bool
-is_digit byte = nat_le 48 byte && nat_le byte 57
-
 -- whether bytes are one digit or more, and nothing else
 abbrev pub is_number : List ℕ → Bool
-is_number bytes = nat_lt 0 (length bytes) && list_all is_digit bytes
+is_number bytes = nat_lt 0 (length bytes) && list_all is_ascii_digit bytes
 
 -- the number of some digits, which may begin with zeros
 abbrev pub number : List ℕ → ℕ

@@ -3,7 +3,8 @@ ghost use Rattle.std.specs.Prelude.{◌≡◌, ◌-◌, ◌*◌, ◌+◌, ◌<�
 ghost use Rattle.std.specs.Prelude.{if◌then◌else◌, IfOk, IfErr};
 ghost use Rattle.std.specs.List.{list_all};
 ghost use Rattle.star_match.specs.Star.{has_adjacent_stars};
-ghost use Rattle.mlog_script.specs.Script.{number, is_digit, is_number, in_range, said};
+ghost use Rattle.mlog_script.specs.Script.{number, is_number, in_range, said};
+ghost use Rattle.std.specs.Char.{is_ascii_digit};
 ghost use Rattle.mlog_script.specs.Word.{act_said, HasLawfulPattern};
 
 use crate::fault::ScriptFaultKind;
@@ -92,16 +93,9 @@ fn is_number(bytes: &[u8]) -> bool
 
 /// Returns whether all bytes are digits.
 fn are_digits(bytes: &[u8]) -> bool
-    ensures { result ≡ list_all is_digit bytes.now }
+    ensures { result ≡ list_all is_ascii_digit bytes.now }
 {
-    bytes.iter().all(|byte| is_digit(*byte))
-}
-
-/// Returns whether a byte is a digit.
-fn is_digit(byte: u8) -> bool
-    ensures { result ≡ is_digit byte }
-{
-    byte.is_ascii_digit()
+    bytes.iter().all(|byte| byte.is_ascii_digit())
 }
 
 /// Returns the number of some digits, or the greatest `u64` if the number is greater.

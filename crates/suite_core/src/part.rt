@@ -17,12 +17,12 @@ use tai_status::Label;
 
 /// A part and its trace.
 #[derive(Drop)]
-pub(crate) struct Part<A: Allocator = Global> {
+pub(crate) struct SuitePart<A: Allocator = Global> {
     id: PartId,
     trace: Trace<A>,
 }
 
-impl<A: Allocator> Model for Part<A> {
+impl<A: Allocator> Model for SuitePart<A> {
     ghost use Rattle.suite_core.specs.Parts.{PartState};
 
     ghost Value = { PartState };
@@ -61,7 +61,7 @@ pub(crate) fn is_place(a: PartId, b: PartId) -> bool
     a.slot == b.slot && is_main(a.role) == is_main(b.role)
 }
 
-impl<A: Allocator> Part<A> {
+impl<A: Allocator> SuitePart<A> {
     /// Begins a part. Returns it with what its beginning asks for. The trace takes all its memory now.
     pub(crate) fn begin(
         alloc: A,
@@ -69,7 +69,7 @@ impl<A: Allocator> Part<A> {
         label: Label,
         id: PartId,
         down: bool,
-    ) -> Result<(Part<A>, Begun), AllocError>
+    ) -> Result<(SuitePart<A>, Begun), AllocError>
         requires room { 0 < capacity }
         requires limit { capacity ≤ 65536 }
         ensures part { IfOk result (λ made. made.0 ≡ begun_part capacity label (record { part = id; down = down })) }
@@ -82,7 +82,7 @@ impl<A: Allocator> Part<A> {
             asks,
             phase: machine.phase(),
         };
-        Ok((Part { id, trace }, begun))
+        Ok((SuitePart { id, trace }, begun))
     }
 
     /// Returns the part's name.

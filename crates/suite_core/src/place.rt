@@ -6,7 +6,7 @@ ghost use Rattle.suite_core.specs.Parts.{trace_of, parts_after, has_ended, resta
 ghost use Rattle.suite_core.specs.Places.{AreRising, IsEdge, IsPlaceOf, IsPartAt, HasNone};
 ghost use Rattle.suite_core.specs.Suite.{outs_at};
 
-use crate::part::{Part, is_before, is_part, is_place};
+use crate::part::{SuitePart, is_before, is_part, is_place};
 use scan_table::PartId;
 use std::alloc::Allocator;
 use suite_lines::StepOut;
@@ -14,7 +14,7 @@ use sup_core::Event;
 use sup_trace::Trace;
 
 /// Returns the place of the first part that does not come before this one.
-fn edge<A: Allocator>(parts: &[Part<A>], id: PartId) -> usize
+fn edge<A: Allocator>(parts: &[SuitePart<A>], id: PartId) -> usize
     requires { AreRising parts.now }
     ensures { IsEdge parts.now id result }
 {
@@ -32,7 +32,7 @@ fn edge<A: Allocator>(parts: &[Part<A>], id: PartId) -> usize
 }
 
 /// Returns the place of the part with a slot and role, in any life.
-fn place_of<A: Allocator>(parts: &[Part<A>], id: PartId) -> Option<usize>
+fn place_of<A: Allocator>(parts: &[SuitePart<A>], id: PartId) -> Option<usize>
     requires { AreRising parts.now }
     ensures { MatchOption result (HasNone parts.now id) (λ place. IsPlaceOf parts.now id place) }
 {
@@ -45,7 +45,7 @@ fn place_of<A: Allocator>(parts: &[Part<A>], id: PartId) -> Option<usize>
 }
 
 /// Returns the place of a part.
-pub(crate) fn find<A: Allocator>(parts: &[Part<A>], id: PartId) -> Option<usize>
+pub(crate) fn find<A: Allocator>(parts: &[SuitePart<A>], id: PartId) -> Option<usize>
     requires { AreRising parts.now }
     ensures { MatchOption result (trace_of parts.now id ≡ None) (λ place. IsPartAt parts.now id place) }
 {
@@ -56,7 +56,7 @@ pub(crate) fn find<A: Allocator>(parts: &[Part<A>], id: PartId) -> Option<usize>
 }
 
 /// Returns the trace of a part.
-pub(crate) fn trace_of<A: Allocator>(parts: &[Part<A>], id: PartId) -> Option<&Trace<A>>
+pub(crate) fn trace_of<A: Allocator>(parts: &[SuitePart<A>], id: PartId) -> Option<&Trace<A>>
     requires { AreRising parts.now }
     ensures { option_copied result ≡ trace_of parts.now id }
 {
@@ -68,7 +68,7 @@ pub(crate) fn trace_of<A: Allocator>(parts: &[Part<A>], id: PartId) -> Option<&T
 
 /// Takes an event at the part at this place. Returns the result, and whether the part has then ended.
 pub(crate) fn take_event<A: Allocator>(
-    parts: &mut [Part<A>],
+    parts: &mut [SuitePart<A>],
     id: PartId,
     place: usize,
     event: Event,
@@ -89,7 +89,7 @@ pub(crate) fn take_event<A: Allocator>(
 }
 
 /// Puts a part that restarts into its place.
-fn restart<A: Allocator>(parts: &mut [Part<A>], new: Part<A>)
+fn restart<A: Allocator>(parts: &mut [SuitePart<A>], new: SuitePart<A>)
     requires { AreRising parts.old }
     ensures { parts.new ≡ map (restarted_in (new ∷ [])) parts.old }
 {
@@ -99,7 +99,7 @@ fn restart<A: Allocator>(parts: &mut [Part<A>], new: Part<A>)
 }
 
 /// Puts parts that restart into their places.
-pub(crate) fn restart_all<A: Allocator>(parts: &mut [Part<A>], news: Vec<Part<A>, A>)
+pub(crate) fn restart_all<A: Allocator>(parts: &mut [SuitePart<A>], news: Vec<SuitePart<A>, A>)
     requires { AreRising parts.old }
     ensures { parts.new ≡ map (restarted_in news.items) parts.old }
 {

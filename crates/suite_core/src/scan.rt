@@ -6,7 +6,7 @@ ghost use Rattle.suite_core.specs.Parts.{is_of, restarted_in};
 ghost use Rattle.suite_core.specs.Places;
 ghost use Rattle.suite_core.specs.Suite.{beginning, begun_part, begun_out, changed};
 
-use crate::part::Part;
+use crate::part::SuitePart;
 use crate::place::restart_all;
 use scan_table::{DirRow, PartId, ScanTable, find_row};
 use std::alloc::{AllocError, Allocator};
@@ -36,7 +36,7 @@ pub(crate) fn begin_parts<A: Allocator + Clone>(
     rows: &[DirRow<A>],
     ids: &[PartId],
     begun: &mut Vec<Begun, A>,
-) -> Result<Vec<Part<A>, A>, AllocError>
+) -> Result<Vec<SuitePart<A>, A>, AllocError>
     requires room { 0 < capacity }
     requires limit { capacity ≤ 65536 }
     requires rows { AreRising rows.now }
@@ -48,7 +48,7 @@ pub(crate) fn begin_parts<A: Allocator + Clone>(
     let mut parts = Vec::new(alloc.clone()?);
     for id in ids {
         let down = begins_down(table, rows, *id);
-        let (part, said) = Part::begin(alloc.clone()?, capacity, label, *id, down)?;
+        let (part, said) = SuitePart::begin(alloc.clone()?, capacity, label, *id, down)?;
         parts.push(part)?;
         begun.push(said)?;
     }
@@ -56,7 +56,7 @@ pub(crate) fn begin_parts<A: Allocator + Clone>(
 }
 
 /// Drops the parts of these slots.
-fn keep<A: Allocator>(parts: &mut Vec<Part<A>, A>, dropped: &[u64])
+fn keep<A: Allocator>(parts: &mut Vec<SuitePart<A>, A>, dropped: &[u64])
     ensures items { parts.new.items ≡ filter (λ part. not (is_of dropped.now part)) parts.old.items }
     ensures len { vec_len parts.new ≤ vec_len parts.old }
     ensures room { vec_capacity parts.new ≡ vec_capacity parts.old }
@@ -65,7 +65,7 @@ fn keep<A: Allocator>(parts: &mut Vec<Part<A>, A>, dropped: &[u64])
 }
 
 /// Puts parts that restart into their places.
-fn restart_in<A: Allocator>(parts: &mut Vec<Part<A>, A>, news: Vec<Part<A>, A>)
+fn restart_in<A: Allocator>(parts: &mut Vec<SuitePart<A>, A>, news: Vec<SuitePart<A>, A>)
     requires { Places.AreRising parts.old.items }
     ensures items { parts.new.items ≡ map (restarted_in news.items) parts.old.items }
     ensures len { vec_len parts.new ≡ vec_len parts.old }
@@ -76,10 +76,10 @@ fn restart_in<A: Allocator>(parts: &mut Vec<Part<A>, A>, news: Vec<Part<A>, A>)
 
 /// Drops the parts of dropped slots, puts restarted parts into their places, and adds started parts at the end.
 pub(crate) fn change<A: Allocator>(
-    parts: &mut Vec<Part<A>, A>,
+    parts: &mut Vec<SuitePart<A>, A>,
     dropped: &[u64],
-    started: Vec<Part<A>, A>,
-    restarted: Vec<Part<A>, A>,
+    started: Vec<SuitePart<A>, A>,
+    restarted: Vec<SuitePart<A>, A>,
 )
     requires rising { Places.AreRising parts.old.items }
     requires room { vec_len parts.old + vec_len started ≤ vec_capacity parts.old }

@@ -18,7 +18,7 @@ ghost use Rattle.suite_core.specs.Run.{Ran, done, GoByOwnEvents, ReplyByOwnHisto
 ghost use Rattle.suite_core.specs.Run.{GoesByOwnEvent, RepliesByOwnHistory, LeavesOthers, BeginsAsRowsSay};
 
 use crate::fault::{StepFault, SuiteFault};
-use crate::part::Part;
+use crate::part::SuitePart;
 use crate::place::{find, take_event, trace_of};
 use crate::scan::{begin_parts, change};
 use scan_table::{DirRow, PartId, ScanOut, ScanTable};
@@ -35,7 +35,7 @@ pub struct Suite<A: Allocator + Clone = Global> {
     alloc: A,
     table: ScanTable<A>,
     /// The parts by rising slot, each service before its logger.
-    parts: Vec<Part<A>, A>,
+    parts: Vec<SuitePart<A>, A>,
     capacity: usize,
 }
 
@@ -60,14 +60,14 @@ struct Planned<A: Allocator + Clone = Global> {
     /// The table after the scan.
     table: ScanTable<A>,
     scan: ScanOut<A>,
-    started: Vec<Part<A>, A>,
-    restarted: Vec<Part<A>, A>,
+    started: Vec<SuitePart<A>, A>,
+    restarted: Vec<SuitePart<A>, A>,
     begun: Vec<Begun, A>,
 }
 
 /// Takes an event at the part at this place of a vector.
 fn take_event_in<A: Allocator>(
-    parts: &mut Vec<Part<A>, A>,
+    parts: &mut Vec<SuitePart<A>, A>,
     id: PartId,
     place: usize,
     event: Event,
@@ -91,7 +91,7 @@ fn take_event_in<A: Allocator>(
 /// Takes the room for one output and these parts.
 fn reserve<A: Allocator>(
     out: &mut Vec<StepOut<A>, A>,
-    parts: &mut Vec<Part<A>, A>,
+    parts: &mut Vec<SuitePart<A>, A>,
     count: usize,
 ) -> Result<(), AllocError>
     ensures out { out.new.items ≡ out.old.items }

@@ -7,7 +7,7 @@ use crate::fault::{TraceFault, TraceFaultKind};
 
 /// A text that is read line by line: what is left of it, and the number of the next line.
 #[derive(Clone, Copy)]
-pub(crate) struct Lines<'a> {
+pub(crate) struct TextLines<'a> {
     pub rest: &'a [u8],
     pub number: u64,
 }
@@ -32,13 +32,13 @@ fn cut_line(text: &[u8]) -> Option<(&[u8], &[u8])>
     }
 }
 
-impl<'a> Lines<'a> {
+impl<'a> TextLines<'a> {
     /// Returns the lines of a text.
-    pub fn new(text: &'a [u8]) -> Lines<'a>
+    pub fn new(text: &'a [u8]) -> TextLines<'a>
         ensures rest { result.rest.now ≡ text.now }
         ensures number { result.number ≡ 1 }
     {
-        Lines {
+        TextLines {
             rest: text,
             number: 1,
         }

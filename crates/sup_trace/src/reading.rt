@@ -15,7 +15,7 @@ ghost use Rattle.sup_trace.specs.Steps.{KeepsEntries, ReadsNext, EndsInFault, Re
 use crate::base::read_base;
 use crate::content::TraceText;
 use crate::fault::{TraceFault, TraceFaultKind};
-use crate::lines::Lines;
+use crate::lines::TextLines;
 use crate::trace::MAX_CAPACITY;
 use std::alloc::{Allocator, Global};
 use std::marker::Model;
@@ -168,7 +168,7 @@ impl<A: Allocator> Reading<A> {
 
 impl<A: Allocator> Reading<A> {
     /// Takes the next line after the base's. Returns whether it is the end line.
-    fn take_next(&mut self, lines: &mut Lines<'_>) -> Result<bool, TraceFault>
+    fn take_next(&mut self, lines: &mut TextLines<'_>) -> Result<bool, TraceFault>
         requires room { lines.old.number + length lines.old.rest.now < 2 ^ 64 }
 
         // If it succeeds, the line is read and cut off the text. What is left is shorter, so the numbers of all later
@@ -193,7 +193,7 @@ impl<A: Allocator> Reading<A> {
 }
 
 /// Takes the first line.
-fn take_header(lines: &mut Lines<'_>) -> Result<(), TraceFault>
+fn take_header(lines: &mut TextLines<'_>) -> Result<(), TraceFault>
     requires { lines.old.number + length lines.old.rest.now < 2 ^ 64 }
     ensures ok { OnOk result (ReadsNext lines.old lines.new Nothing Header) }
     ensures room { OnOk result (lines.new.number + length lines.new.rest.now < 2 ^ 64) }
@@ -210,7 +210,7 @@ fn take_header(lines: &mut Lines<'_>) -> Result<(), TraceFault>
 }
 
 /// Takes the base's line.
-fn take_base(lines: &mut Lines<'_>) -> Result<(u64, Machine), TraceFault>
+fn take_base(lines: &mut TextLines<'_>) -> Result<(u64, Machine), TraceFault>
     requires { lines.old.number + length lines.old.rest.now < 2 ^ 64 }
     ensures ok { IfOk result (λ (folded, base). ReadsNext lines.old lines.new Header (at_base folded base)) }
     ensures room { OnOk result (lines.new.number + length lines.new.rest.now < 2 ^ 64) }
@@ -227,7 +227,7 @@ fn take_base(lines: &mut Lines<'_>) -> Result<(u64, Machine), TraceFault>
 }
 
 /// Takes the two lines before the entries.
-fn take_opening(lines: &mut Lines<'_>) -> Result<(u64, Machine), TraceFault>
+fn take_opening(lines: &mut TextLines<'_>) -> Result<(u64, Machine), TraceFault>
     requires { lines.old.number + length lines.old.rest.now < 2 ^ 64 }
 
     // If it succeeds, reading on from the base gives what reading from the first line gives, and each entry has the
@@ -249,7 +249,7 @@ fn take_opening(lines: &mut Lines<'_>) -> Result<(u64, Machine), TraceFault>
 
 impl<A: Allocator> Reading<A> {
     /// Takes the lines after the base's, up to the end line.
-    fn take_entries(&mut self, lines: &mut Lines<'_>) -> Result<(), TraceFault>
+    fn take_entries(&mut self, lines: &mut TextLines<'_>) -> Result<(), TraceFault>
         requires room { lines.old.number + length lines.old.rest.now < 2 ^ 64 }
         ensures ok { OnOk result
             (ReadsAlike lines.old (Entries self.old) lines.new (Whole self.new)) }
@@ -271,7 +271,7 @@ fn read_lines<A: Allocator>(alloc: A, text: &[u8]) -> Result<TraceText<A>, Trace
     ensures memory { IfErr result (λ fault. fault.kind ≡ kind.OutOfMemory
         → ReadsEntry fault.line 1 Nothing (parts_of text.now)) }
 {
-    let mut lines = Lines::new(text);
+    let mut lines = TextLines::new(text);
     let (folded, base) = take_opening(&mut lines)?;
     let mut reading = Reading::new(alloc, base, folded);
     reading.take_entries(&mut lines)?;

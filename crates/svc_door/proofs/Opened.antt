@@ -12,7 +12,7 @@ use Rattle.std.proofs.lemmas.Map.Keys.{IsDistinct-cons}
 use Rattle.std.proofs.lemmas.Map.Made.{length-le_from_is_member}
 use Rattle.std.proofs.Math.Dec.{eqb}
 use Rattle.slab.specs.Slab.{Slab, get, slab_len}
-use Rattle.svc_door.specs.declared.part.Part.{Part}
+use Rattle.svc_door.specs.declared.part.DoorPart.{DoorPart}
 use Rattle.svc_door.specs.Dues.{due_at, due_slots}
 use Rattle.svc_door.specs.Slots.{AreOpen, times}
 use Rattle.svc_door.specs.Turning.{HaveTurns, TurnsIfDue, TurnsOf}
@@ -144,25 +144,25 @@ never-due None p h d = d
 never-due (Some at) p h d = absurd (true≢false h)
 
 -- the slot of a due part is in the list once, and that of any other part is not in it
-open-is : (parts : Slab Part) (slots : List ℕ) → AreOpen parts slots → (slot : ℕ)
+open-is : (parts : Slab DoorPart) (slots : List ℕ) → AreOpen parts slots → (slot : ℕ)
     → ((is_some (due_at parts slot) ≡ true) × (times slot slots ≡ 1))
     ⊎ ((is_some (due_at parts slot) ≡ false) × (times slot slots ≡ 0))
 open-is parts slots o slot = ⊎_elim
     (λ t. inl (t, o slot ∙ rw t refl)) (λ f. inr (f, o slot ∙ rw f refl)) (cases_Bool (is_some (due_at parts slot)))
 
-due-there : (cell : Option Part) → is_some (option_and_then (λ part. part.due) cell) ≡ true
+due-there : (cell : Option DoorPart) → is_some (option_and_then (λ part. part.due) cell) ≡ true
     → is_some cell ≡ true
 due-there None h = h
 due-there (Some part) h = refl
 
 -- a part that is not due does not change
-turns-none : (now : ℕ) (cell : Option Part) → is_some (option_and_then (λ part. part.due) cell) ≡ false
+turns-none : (now : ℕ) (cell : Option DoorPart) → is_some (option_and_then (λ part. part.due) cell) ≡ false
     → TurnsIfDue now cell cell
 turns-none now None h = refl
 turns-none now (Some part) h = inr (never-due part.due (λ due. due ≤ now) h, refl)
 
 -- the turns of the slots of all due parts
-pub turned-each : (now : ℕ) (slots : List ℕ) (old new : Slab Part) → AreOpen old slots
+pub turned-each : (now : ℕ) (slots : List ℕ) (old new : Slab DoorPart) → AreOpen old slots
     → TurnsOf now slots old new → HaveTurns now old new
 turned-each now slots old new o t slot = ⊎_elim
     (λ due. (t slot).1 due.1)
@@ -170,7 +170,7 @@ turned-each now slots old new o t slot = ⊎_elim
     (open-is old slots o slot)
 
 -- those that are due after them
-pub open-turned : (now : ℕ) (slots : List ℕ) (old new : Slab Part) → AreOpen old slots
+pub open-turned : (now : ℕ) (slots : List ℕ) (old new : Slab DoorPart) → AreOpen old slots
     → TurnsOf now slots old new → AreOpen new (due_slots new slots)
 open-turned now slots old new o t slot =
     times-filter (λ other. is_some (due_at new other)) slot slots ∙ by (is_some (due_at new slot)) refl
@@ -184,7 +184,7 @@ open-turned now slots old new o t slot =
     by false is = refl
 
 -- those that are due after a part has left its slot
-pub open-dismissed : (slots : List ℕ) (slot : ℕ) (old new : Slab Part) → AreOpen old slots
+pub open-dismissed : (slots : List ℕ) (slot : ℕ) (old new : Slab DoorPart) → AreOpen old slots
     → get new slot ≡ None → ((other : ℕ) → other ≢ slot → get new other ≡ get old other)
     → AreOpen new (filter (λ other. not (other == slot)) slots)
 open-dismissed slots slot old new o free others other =
@@ -194,7 +194,7 @@ open-dismissed slots slot old new o free others other =
     (eqb_tells other slot)
 
 -- there is room for the slot of a part that is not due
-pub room-for : (parts : Slab Part) (slots : List ℕ) (at room : ℕ) → AreOpen parts slots
+pub room-for : (parts : Slab DoorPart) (slots : List ℕ) (at room : ℕ) → AreOpen parts slots
     → IsSome (get parts at) → is_some (due_at parts at) ≡ false → slab_len parts ≤ room → length slots < room
 room-for parts slots at room o there idle within =
     let fewer = fewer-slots parts.slots slots at once (o at ∙ rw idle refl) there in

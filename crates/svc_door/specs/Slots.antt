@@ -6,7 +6,7 @@ use Rattle.slab.specs.Slab.{Slab, get}
 use Rattle.mio.specs.declared.net.uds.listener.UnixListener.{UnixListener}
 use Rattle.std.specs.declared.alloc.Global.{Global}
 use Rattle.svc_house.specs.declared.control_sender.ControlSender.{ControlSender}
-use Rattle.svc_door.specs.declared.part.Part.{Part}
+use Rattle.svc_door.specs.declared.part.DoorPart.{DoorPart}
 use Rattle.svc_door.specs.Dues.{due_at}
 
 -- how often a slot occurs in a list
@@ -14,11 +14,11 @@ abbrev pub times : (slot : ℕ) → List ℕ → ℕ
 times slot slots = count_by (λ other. other == slot) slots
 
 -- the number of the part in a slot
-abbrev pub number_at : Slab Part → (slot : ℕ) → Option ℕ
+abbrev pub number_at : Slab DoorPart → (slot : ℕ) → Option ℕ
 number_at parts slot = option_map (λ part. part.number) (get parts slot)
 
 -- A part begins: it has no connection, and waits for an event of its listeners.
-pub record Begins (life : ℕ) (given : ControlSender Global) (control ok : UnixListener) (part : Part) : Type 0 where
+pub record Begins (life : ℕ) (given : ControlSender Global) (control ok : UnixListener) (part : DoorPart) : Type 0 where
   pub number : part.number ≡ life
   pub sender : part.sender ≡ given
   pub sockets : (part.control.socket ≡ control) × (part.ok.socket ≡ ok)
@@ -27,10 +27,10 @@ pub record Begins (life : ℕ) (given : ControlSender Global) (control ok : Unix
   pub connection : part.connection ≡ None
 
 -- A part that begins gets a slot that was free, which its events name. Each other slot is as it was.
-pub record Admits (number : ℕ) (sender : ControlSender Global) (control ok : UnixListener) (old new : Slab Part)
+pub record Admits (number : ℕ) (sender : ControlSender Global) (control ok : UnixListener) (old new : Slab DoorPart)
     : Type 0 where
   pub slot : ℕ
-  pub part : Part
+  pub part : DoorPart
   pub begins : Begins number sender control ok part
   pub token : part.token.0 ≡ slot
   pub was_free : get old slot ≡ None
@@ -39,10 +39,10 @@ pub record Admits (number : ℕ) (sender : ControlSender Global) (control ok : U
 
 -- The part with this number left its slot, and gave its sender back. The slot is no longer among those that have a
 -- turn. All else is as it was.
-pub record Dismisses (number : ℕ) (sender : ControlSender Global) (old new : Slab Part) (slots slots_now : List ℕ)
+pub record Dismisses (number : ℕ) (sender : ControlSender Global) (old new : Slab DoorPart) (slots slots_now : List ℕ)
     : Type 0 where
   pub slot : ℕ
-  pub part : Part
+  pub part : DoorPart
   pub had : get old slot ≡ Some part
   pub number_is : part.number ≡ number
   pub sender_is : part.sender ≡ sender
@@ -51,5 +51,5 @@ pub record Dismisses (number : ℕ) (sender : ControlSender Global) (old new : S
   pub turns : slots_now ≡ filter (λ other. not (other == slot)) slots
 
 -- The slot of each due part is among these once, and no other slot is.
-abbrev pub AreOpen : Slab Part → (slots : List ℕ) → Type 0
+abbrev pub AreOpen : Slab DoorPart → (slots : List ℕ) → Type 0
 AreOpen parts slots = (slot : ℕ) → times slot slots ≡ (if is_some (due_at parts slot) then 1 else 0)

@@ -4,7 +4,7 @@ use crate::rests::{next_look, spoken};
 use std::marker::Model;
 use std::sync::Wait;
 use svc_house::ControlSender;
-use svc_mail::letter::Full;
+use svc_mail::letter::MailboxFull;
 
 /// The most bytes that are read from a connection. After them it is over.
 pub const MOST: usize = 4096;
@@ -164,7 +164,7 @@ impl<G: ByteSource> Connection<G> {
         while self.from < self.to {
             match sender.post(rt, self.piece[self.from]) {
                 Ok(()) => self.from += 1,
-                Err(Full(_byte)) => return false,
+                Err(MailboxFull(_byte)) => return false,
             }
         }
         true

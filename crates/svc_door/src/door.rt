@@ -1,6 +1,6 @@
 //! The door's thread, and the handle to it.
 use crate::rests::{in_millis, poll_limit};
-use crate::table::{Next, NotAdmitted, Table, WAKER};
+use crate::table::{AdmissionFault, Next, Table, WAKER};
 use mio::net::UnixListener;
 use mio::{Events, Poll, Registry, Waker};
 use std::alloc::Global;
@@ -65,7 +65,7 @@ impl Door {
         sender: ControlSender,
         control: UnixListener,
         ok: UnixListener,
-    ) -> Result<(), NotAdmitted>
+    ) -> Result<(), AdmissionFault>
         ensures sender { IfErr result (λ refused. refused.sender ≡ sender) }
     {
         self.shared

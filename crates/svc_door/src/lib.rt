@@ -26,4 +26,4 @@ mod table;
 pub use byte_source::{ByteSource, Heard};
 pub use connection::{Connection, Turn};
 pub use door::Door;
-pub use table::NotAdmitted;
+pub use table::AdmissionFault;

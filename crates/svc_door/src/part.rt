@@ -15,7 +15,7 @@ use svc_house::ControlSender;
 
 /// A part: its two listeners, and its control connection, if there is one.
 #[derive(Drop)]
-pub struct Part {
+pub struct DoorPart {
     /// The number of its life.
     pub number: u64,
     /// The token of its listeners and of its connection, which their events name.
@@ -29,7 +29,7 @@ pub struct Part {
     ghost posted: { ∥ IfSome connection (HasPostedLast (posted_by sender)) ∥₁ },
 }
 
-impl Part {
+impl DoorPart {
     ghost use Rattle.std.specs.IoError.{error_kind};
     ghost use Rattle.std.specs.Prelude.{◌≡◌, ◌↔◌, ◌≤◌, IsTrue, IsNone, IsSome, IsSomeAnd, Some, None, IfErr, OnOk};
     ghost use Rattle.std.specs.Prelude.{OnErr};
@@ -47,7 +47,7 @@ impl Part {
         sender: ControlSender,
         control: UnixListener,
         ok: UnixListener,
-    ) -> Part
+    ) -> DoorPart
         // The part has what it is given: its bytes go to this sender, and its events will name this token.
         ensures number { result.number ≡ number }
         ensures token { result.token ≡ token }
@@ -60,7 +60,7 @@ impl Part {
         // Its listeners have these sockets, which `register` makes the registry watch.
         ensures listeners { (result.control.socket ≡ control) × (result.ok.socket ≡ ok) }
     {
-        Part {
+        DoorPart {
             number,
             token,
             due: None,
@@ -95,7 +95,7 @@ impl Part {
     pub fn into_sender(self) -> ControlSender
         ensures { result ≡ self.sender }
     {
-        let Part { sender, .. } = self;
+        let DoorPart { sender, .. } = self;
         sender
     }
 

@@ -8,7 +8,7 @@ ghost use Rattle.svc_door.specs.Turning.{HasRound, HaveTurns, TurnsIfDue, TurnsO
 ghost use Rattle.mio.specs.Events.{items};
 ghost use Rattle.svc_door.specs.declared.table.Next.TheVariants as next;
 
-use crate::part::Part;
+use crate::part::DoorPart;
 use crate::rests::sooner;
 use mio::net::UnixListener;
 use mio::{Events, Registry, Token};
@@ -23,7 +23,7 @@ pub const WAKER: Token = Token(usize::MAX);
 
 /// What is given back for a part that was not admitted.
 #[derive(Drop)]
-pub struct NotAdmitted {
+pub struct AdmissionFault {
     /// The destination of its control bytes.
     pub sender: ControlSender,
     /// Why it was not admitted.
@@ -43,7 +43,7 @@ pub enum Next {
 #[derive(Drop)]
 pub struct Table {
     ends: bool,
-    parts: Slab<Part>,
+    parts: Slab<DoorPart>,
     open_slots: Vec<usize>,
     ghost each: { AreOpen parts open_slots.items },
     ghost room: { slab_len parts ≤ vec_capacity open_slots },
@@ -71,7 +71,7 @@ impl Table {
         control: UnixListener,
         ok: UnixListener,
         registry: &Registry,
-    ) -> Result<(), NotAdmitted>
+    ) -> Result<(), AdmissionFault>
         ensures admitted { OnOk result (Admits number sender control ok self.old.parts self.new.parts) }
         ensures refused { OnErr result ((slot : ℕ) → get self.new.parts slot ≡ get self.old.parts slot) }
         ensures sender { IfErr result (λ refused. refused.sender ≡ sender) }
@@ -79,13 +79,13 @@ impl Table {
         ensures ends { self.new.ends ≡ self.old.ends }
     {
         let token = Token(self.parts.vacant_key());
-        let mut part = Part::new(number, token, sender, control, ok);
+        let mut part = DoorPart::new(number, token, sender, control, ok);
         match self.watch(&mut part, registry) {
             Ok(()) => {
                 self.parts.insert_reserved(part);
                 Ok(())
             }
-            Err(fault) => Err(NotAdmitted {
+            Err(fault) => Err(AdmissionFault {
                 sender: part.into_sender(),
                 fault,
             }),
@@ -93,7 +93,7 @@ impl Table {
     }
 
     // Makes the registry watch a part, after there is room for it and for its turns.
-    fn watch(&mut self, part: &mut Part, registry: &Registry) -> io::Result<()>
+    fn watch(&mut self, part: &mut DoorPart, registry: &Registry) -> io::Result<()>
         // If it succeeds, one more part can get a slot, and its turns, without more memory.
         ensures room { OnOk result (HasRoomFor self.new.parts 1) }
         ensures room_for_turns { OnOk result (slab_len self.new.parts + 1 ≤ vec_capacity self.new.open_slots) }
@@ -226,7 +226,7 @@ impl Table {
 /// Gives each part of these slots its turn, if it is due.
 fn turn_each<R: Wait>(
     rt: &R,
-    parts: &mut Slab<Part>,
+    parts: &mut Slab<DoorPart>,
     registry: &Registry,
     slots: &[usize],
     now: u64,
@@ -240,7 +240,7 @@ fn turn_each<R: Wait>(
 }
 
 /// Gives a part its turn, if it is due.
-fn turn<R: Wait>(rt: &R, parts: &mut Slab<Part>, registry: &Registry, slot: usize, now: u64)
+fn turn<R: Wait>(rt: &R, parts: &mut Slab<DoorPart>, registry: &Registry, slot: usize, now: u64)
     ensures there { TurnsIfDue now (get parts.old slot) (get parts.new slot) }
     ensures others { (other : ℕ) → other ≢ slot → get parts.new other ≡ get parts.old other }
     ensures len { slab_len parts.new ≡ slab_len parts.old }
@@ -253,7 +253,7 @@ fn turn<R: Wait>(rt: &R, parts: &mut Slab<Part>, registry: &Registry, slot: usiz
 }
 
 /// Makes the part in a slot due now.
-fn make_due(parts: &mut Slab<Part>, slot: usize, now: u64)
+fn make_due(parts: &mut Slab<DoorPart>, slot: usize, now: u64)
     ensures wakes { Wakes now (get parts.old slot) (get parts.new slot) }
     ensures others { (other : ℕ) → other ≢ slot → get parts.new other ≡ get parts.old other }
     ensures len { slab_len parts.new ≡ slab_len parts.old }
@@ -264,7 +264,7 @@ fn make_due(parts: &mut Slab<Part>, slot: usize, now: u64)
 }
 
 /// Returns when the part in a slot is due.
-fn due_at(parts: &Slab<Part>, slot: usize) -> Option<u64>
+fn due_at(parts: &Slab<DoorPart>, slot: usize) -> Option<u64>
     ensures { result ≡ due_at parts.now slot }
 {
     match parts.get(slot) {
@@ -274,7 +274,7 @@ fn due_at(parts: &Slab<Part>, slot: usize) -> Option<u64>
 }
 
 /// Removes the slots with parts that are not due.
-fn keep_due(parts: &Slab<Part>, slots: &mut Vec<usize>)
+fn keep_due(parts: &Slab<DoorPart>, slots: &mut Vec<usize>)
     ensures due { slots.new.items ≡ due_slots parts.now slots.old.items }
     ensures room { vec_capacity slots.new ≡ vec_capacity slots.old }
 {
@@ -282,7 +282,7 @@ fn keep_due(parts: &Slab<Part>, slots: &mut Vec<usize>)
 }
 
 /// Returns when the first of these slots is due.
-fn soonest_due(parts: &Slab<Part>, slots: &[usize]) -> Option<u64>
+fn soonest_due(parts: &Slab<DoorPart>, slots: &[usize]) -> Option<u64>
     ensures { result ≡ soonest_due parts.now slots.now }
 {
     let mut soonest = None;

@@ -1,10 +1,6 @@
 -- How long a thread rests.
-use Rattle.std.specs.Prelude.{ℕ, ◌+◌, ◌-◌, ◌*◌, ◌^◌, min, Option, Some, None}
-use Rattle.tai_status.specs.Label.{Tai64n}
-
--- the nanoseconds from the first of all labels to this one
-abbrev pub nanoseconds : Tai64n → ℕ
-nanoseconds label = label.sec * 10 ^ 9 + label.nano
+use Rattle.std.specs.Prelude.{ℕ, ◌-◌, ◌^◌, min, Option, Some, None}
+use Rattle.tai_status.specs.Label.{Tai64n, nanoseconds}
 
 -- the nanoseconds from one label to a later one, at most a second
 abbrev pub rest_before : Tai64n → Tai64n → ℕ

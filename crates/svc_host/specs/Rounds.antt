@@ -10,7 +10,7 @@ use Rattle.scan_table.specs.Slots.{Row, SlotState}
 use Rattle.scan_table.specs.Order.{scan_refusal}
 use Rattle.scan_table.specs.Scan.{starts, restarts, drops, refused}
 use Rattle.scan_table.specs.Table.{TableState, after_end, scanned}
-use Rattle.svc_host.specs.declared.host.Begun.{Begun}
+use Rattle.svc_host.specs.declared.host.BegunParts.{BegunParts}
 use Rattle.svc_host.specs.declared.host.HostOut.{HostOut}
 use Rattle.svc_host.specs.declared.host.Unmade.{Unmade}
 use Rattle.svc_house.specs.Calls.{ExtendedWhileKept}
@@ -94,7 +94,7 @@ pub record Beginnings : Type 0 where
   pub failed : List PartId
   pub calls : Option (List Call)
 
-abbrev pub beginnings : {R : Type 0} → Begun R → Option (List Call) → Beginnings
+abbrev pub beginnings : {R : Type 0} → BegunParts R → Option (List Call) → Beginnings
 beginnings begun calls =
     record { parts = begun.parts.items; failed = unmade_ids begun.failed.items; calls = calls }
 
@@ -122,12 +122,12 @@ IsBegunOne slots rows label id old new =
     × (HandsOutNone old.calls new.calls ⊎ HandsOut old.calls new.calls (id ∷ []) (id ∷ [])))
 
 -- the same for what a scan has begun so far, and for what was asked of its maker
-abbrev pub BeginsAll : {R : Type 0} → List SlotState → List Row → Tai64n → List PartId → (old new : Begun R)
+abbrev pub BeginsAll : {R : Type 0} → List SlotState → List Row → Tai64n → List PartId → (old new : BegunParts R)
     → (asked now_asked : Option (List Call)) → Type 0
 BeginsAll slots rows label ids old new asked now_asked =
     AreBegun slots rows label ids (beginnings old asked) (beginnings new now_asked)
 
-abbrev pub BeginsOne : {R : Type 0} → List SlotState → List Row → Tai64n → PartId → (old new : Begun R)
+abbrev pub BeginsOne : {R : Type 0} → List SlotState → List Row → Tai64n → PartId → (old new : BegunParts R)
     → (asked now_asked : Option (List Call)) → Type 0
 BeginsOne slots rows label id old new asked now_asked =
     IsBegunOne slots rows label id (beginnings old asked) (beginnings new now_asked)

@@ -9,8 +9,8 @@ use Rattle.svc_station.specs.Ends.{history_of, published}
 use Rattle.svc_station.specs.Parking.{GoesOn, writer_in}
 use Rattle.svc_house.specs.Calls.{bytes_in}
 use Rattle.svc_house.specs.Mail.{items_of}
-use Rattle.svc_host.specs.declared.running.Place.{Place}
-use Rattle.svc_host.specs.declared.running.Place.TheVariants.{Thread, Here}
+use Rattle.svc_host.specs.declared.running.WriterPlace.{WriterPlace}
+use Rattle.svc_host.specs.declared.running.WriterPlace.TheVariants.{Thread, Here}
 use Rattle.svc_host.specs.declared.service.Served.{Served}
 
 -- The service is gone, and the control bytes of its whole history are the letters taken from its mailbox.
@@ -24,6 +24,6 @@ ServesOut went served =
     GoesOn went (writer_in served.parked) × IfSome served.receiver (IsServed (writer_in served.parked))
 
 -- the writer of a service, as it was when it went to its thread, or as it is here
-abbrev pub writer_at : {R : Type 0} → Place R → Writer
+abbrev pub writer_at : {R : Type 0} → WriterPlace R → Writer
 writer_at (Thread handle) = writer_in handle.promise.went.value
 writer_at (Here parked) = writer_in parked

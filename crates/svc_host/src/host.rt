@@ -158,7 +158,7 @@ fn take_away<M: Maker + Drop, R: Runtime>(
 
 /// The parts that the host has, and those of a scan that could not be made.
 #[derive(Drop)]
-struct Begun<R: Wait + Drop> {
+struct BegunParts<R: Wait + Drop> {
     parts: Vec<Part<R>>,
     failed: Vec<Unmade>,
 }
@@ -170,7 +170,7 @@ fn begin_one<M: Maker + Drop, R: Runtime>(
     rows: &[DirRow],
     label: Label,
     id: PartId,
-    begun: &mut Begun<R>,
+    begun: &mut BegunParts<R>,
 )
     requires rising { AreRising rows.now }
     requires parts_room { vec_len begun.old.parts < vec_capacity begun.old.parts }
@@ -199,7 +199,7 @@ fn begin_all<M: Maker + Drop, R: Runtime>(
     rows: &[DirRow],
     label: Label,
     ids: &[PartId],
-    begun: &mut Begun<R>,
+    begun: &mut BegunParts<R>,
 )
     requires rising { AreRising rows.now }
     requires parts_room { vec_len begun.old.parts + length ids.now ≤ vec_capacity begun.old.parts }
@@ -565,7 +565,7 @@ impl<M: Maker + Drop, R: Runtime> Host<M, R> {
         self.table = table;
         take_away(&mut self.factory, &mut self.parts, &scan);
         let parts = mem::replace(&mut self.parts, Vec::new(alloc));
-        let mut begun = Begun { parts, failed };
+        let mut begun = BegunParts { parts, failed };
         begin_all(
             &mut self.factory,
             &self.table,
@@ -574,7 +574,7 @@ impl<M: Maker + Drop, R: Runtime> Host<M, R> {
             &ids,
             &mut begun,
         );
-        let Begun { parts, failed } = begun;
+        let BegunParts { parts, failed } = begun;
         self.parts = parts;
         end_all(&mut self.table, &failed);
         Ok(HostOut { scan, failed })

@@ -13,7 +13,7 @@ use std::sync::Wait;
 use std::thread::Threads;
 use sup_core::Machine;
 use svc_house::{ControlSender, Runtime};
-use svc_mail::letter::Full;
+use svc_mail::letter::MailboxFull;
 use svc_record::Opening;
 
 /// What was lost as a part ended.
@@ -173,8 +173,8 @@ impl<R: Runtime> Part<R> {
         self.thread.machine()
     }
 
-    /// Posts a control byte. `Full` gives it back: the mailbox was full, and nothing was posted.
-    pub(crate) fn post(&mut self, rt: &R, byte: u8) -> Result<(), Full<u8>>
+    /// Posts a control byte. `MailboxFull` gives it back: the mailbox was full, and nothing was posted.
+    pub(crate) fn post(&mut self, rt: &R, byte: u8) -> Result<(), MailboxFull<u8>>
         ensures { MatchResult result (λ _. HasPosted self.old byte self.new) (λ _. IsRefused self.old self.new) }
     {
         self.sender.post(rt, byte)

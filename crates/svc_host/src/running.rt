@@ -52,7 +52,7 @@ pub(crate) fn end<R: Wait>(rt: &R, writer: Writer, status_reader: StatusReader)
 
 /// Where the writer of a service is.
 #[derive(Drop)]
-pub(crate) enum Place<R: Wait + Drop> {
+pub(crate) enum WriterPlace<R: Wait + Drop> {
     /// In the thread of the service.
     Thread(PromisedHandle<Served<R>, ServesToItsEnd<R>>),
     /// Here: the thread gave it back without having begun.
@@ -61,7 +61,7 @@ pub(crate) enum Place<R: Wait + Drop> {
 
 /// The writer of a service, wherever it is. Contracts see it as it was when it went there.
 #[derive(Drop)]
-pub(crate) struct Away<R: Wait + Drop>(Place<R>);
+pub(crate) struct Away<R: Wait + Drop>(WriterPlace<R>);
 
 impl<R: Wait + Drop> Model for Away<R> {
     ghost use Rattle.svc_station.specs.declared.writer.Writer.{Writer};
@@ -81,8 +81,8 @@ impl<R: Threads + Wait + Drop> Away<R> {
     {
         let Away(place) = self;
         match place {
-            Place::Thread(thread) => thread.join(rt),
-            Place::Here(parked) => Served {
+            WriterPlace::Thread(thread) => thread.join(rt),
+            WriterPlace::Here(parked) => Served {
                 parked,
                 receiver: None,
             },
@@ -122,7 +122,7 @@ impl<R: Runtime> Running<R> {
             Ok(thread) => Some(Running {
                 status_reader,
                 shared,
-                writer: Away(Place::Thread(thread)),
+                writer: Away(WriterPlace::Thread(thread)),
             }),
             Err(refused) => {
                 shared.stay_out();
@@ -159,7 +159,7 @@ impl<R: Runtime> Running<R> {
             None => Err(Running {
                 status_reader,
                 shared,
-                writer: Away(Place::Here(parked)),
+                writer: Away(WriterPlace::Here(parked)),
             }),
         }
     }

@@ -7,7 +7,7 @@ use crate::news::News;
 use crate::notifier::Notifier;
 use std::alloc::{Allocator, Global};
 use std::sync::{Arc, Wait};
-use svc_mail::letter::Full;
+use svc_mail::letter::MailboxFull;
 use svc_mail::sender::Sender;
 
 /// A sender of a service's mailbox, with the notifier that the service's thread waits on.
@@ -25,8 +25,8 @@ impl<A: Allocator + Clone> ControlSender<A> {
         ControlSender { sender, notifier }
     }
 
-    /// Posts a control byte, once, and then notifies. `Full` gives the byte back, and nothing was posted.
-    pub fn post<R: Wait>(&mut self, rt: &R, byte: u8) -> Result<(), Full<u8>>
+    /// Posts a control byte, once, and then notifies. `MailboxFull` gives the byte back, and nothing was posted.
+    pub fn post<R: Wait>(&mut self, rt: &R, byte: u8) -> Result<(), MailboxFull<u8>>
         // If it succeeds, the byte is the last one that this sender posted. It comes in the history of the mailbox
         // after all that the sender had seen of it.
         ensures same { IsSameSender (sender_in self.old) (sender_in self.new) }

@@ -2,7 +2,7 @@
 use std::alloc::{AllocError, Allocator};
 use std::sync::atomic::{AtomicBool, Ordering};
 use std::sync::{Mutex, OnceLock, Wait};
-use svc_mail::letter::Full;
+use svc_mail::letter::MailboxFull;
 use svc_mail::sender::Sender;
 
 /// Evidence that something new is in a place that a thread looks at. Only the act of putting it there creates this, so
@@ -17,12 +17,12 @@ impl News {
     ghost use Rattle.std.specs.Prelude.{◌≡◌, ◌++◌, ◌∷◌, [], IfErr, OnErr, OnOk};
     ghost use Rattle.svc_mail.specs.Ends.{IsSameSender, JoinsHistory, WasFull, heard_by, posted, seen_by};
 
-    /// Posts a letter, once. `Full` gives it back, and nothing was posted.
+    /// Posts a letter, once. `MailboxFull` gives it back, and nothing was posted.
     pub(crate) fn post<A: Allocator + Clone, R: Wait>(
         rt: &R,
         sender: &mut Sender<u8, A>,
         item: u8,
-    ) -> Result<News, Full<u8>>
+    ) -> Result<News, MailboxFull<u8>>
         // If it succeeds, the item is the last one that this sender posted. It comes in the history of the mailbox
         // after all that the sender had seen of it.
         ensures same { IsSameSender sender.old sender.new }

@@ -7,20 +7,20 @@ use Rattle.svc_mail.specs.declared.letter.Letter.{Letter}
 use Rattle.svc_mail.specs.declared.sender.Sender.{Sender}
 use Rattle.svc_mail.specs.declared.receiver.Receiver.{Receiver}
 use Rattle.svc_mail.specs.declared.mailbox.Mailbox.{Mailbox}
-use Rattle.svc_mail.specs.declared.note.Note.{Note}
+use Rattle.svc_mail.specs.declared.note.MailboxNote.{MailboxNote}
 use Rattle.svc_mail.specs.History.{letter, row_of, IsHistory, StartsWith, IsAmong}
 
 module _ {T : Type 0} where
   -- the mailbox of the note
-  abbrev pub note_home : Note T → TableId
+  abbrev pub note_home : MailboxNote T → TableId
   note_home n = n.mark.table_id
 
   -- the history, as far as the end that made the note had seen it
-  abbrev pub history_in : Note T → List (Letter T)
+  abbrev pub history_in : MailboxNote T → List (Letter T)
   history_in n = (view n.mark).seen
 
   -- what was taken, as far as the end that made the note knew
-  abbrev pub taken_in : Note T → List (Letter T)
+  abbrev pub taken_in : MailboxNote T → List (Letter T)
   taken_in n = (view n.mark).taken
 
 module _ {T A : Type 0} where

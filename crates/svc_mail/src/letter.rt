@@ -26,4 +26,4 @@ impl<T: Copy> Clone for Letter<T> {
 
 /// The mailbox was full. This is the item that was not posted.
 #[derive(Clone, Copy, PartialEq, Eq, Debug)]
-pub struct Full<T>(pub T);
+pub struct MailboxFull<T>(pub T);

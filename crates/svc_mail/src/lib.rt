@@ -6,14 +6,14 @@
 //! history. Each sender's letters in it are its row, in order and each once: `whole::every_letter_arrives` states this
 //! for every mailbox.
 //!
-//! `Full` and `None` say that the box was full, or empty, at one moment of the call, as far as this end can know. Some
-//! history ends there that fits what the end posted or took, what it has seen, and what notes gave it.
+//! `MailboxFull` and `None` say that the box was full, or empty, at one moment of the call, as far as this end can know.
+//! Some history ends there that fits what the end posted or took, what it has seen, and what notes gave it.
 //!
 //! An end without notes can know little of the others, so there are notes. `Sender::tell` makes a note of what a sender
 //! has seen, including its own letters. If the receiver has learnt that note, `None` means that all those letters were
-//! taken. `Receiver::tell` makes a note of what was taken. If a sender has learnt that note, `Full` means that the box
-//! was full after those letters. No note says that another sender has posted nothing since. In a mailbox with several
-//! senders, each may therefore believe that the others filled it.
+//! taken. `Receiver::tell` makes a note of what was taken. If a sender has learnt that note, `MailboxFull` means that
+//! the box was full after those letters. No note says that another sender has posted nothing since. In a mailbox with
+//! several senders, each may therefore believe that the others filled it.
 //!
 //! Some facts are in no contract, and only tested. `take` returns a letter that is in the box even if no note mentioned
 //! it. `post` succeeds if there is room. A waiting call returns: a post or a take that never returns meets every

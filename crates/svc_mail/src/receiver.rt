@@ -5,7 +5,7 @@ ghost use Rattle.crossbeam_queue.specs.Passes.{view, IsPassOf};
 ghost use Rattle.svc_mail.specs.Kept.{HasAllSenders};
 
 use crate::letter::Letter;
-use crate::note::Note;
+use crate::note::MailboxNote;
 use crate::rule::{Gets, HearsPosted, MOST, Mark, Queue};
 use std::alloc::{Allocator, Global};
 use std::sync::{Arc, Wait};
@@ -95,17 +95,17 @@ impl<T: Copy, A: Allocator> Receiver<T, A> {
     }
 
     /// Makes a note of the letters that were taken, and of what the receiver has seen of the history.
-    pub fn tell(&mut self) -> Note<T>
+    pub fn tell(&mut self) -> MailboxNote<T>
         ensures same { IsUnchangedReceiver self.old self.new }
         ensures home { note_home result ≡ receiver_home self.old }
         ensures taken { taken_in result ≡ taken_by self.old }
         ensures history { history_in result ≡ seen_at self.old }
     {
-        Note::of(&self.queue, &mut self.mark)
+        MailboxNote::of(&self.queue, &mut self.mark)
     }
 
     /// Learns a sender's note: from now on `take` returns `None` only if all letters of that note were taken.
-    pub fn learn(&mut self, note: Note<T>)
+    pub fn learn(&mut self, note: MailboxNote<T>)
         requires { note_home note ≡ receiver_home self.old }
         ensures same { IsSameReceiver self.old self.new }
         ensures kept { (taken_by self.new ≡ taken_by self.old) × (seen_at self.new ≡ seen_at self.old) }

@@ -4,8 +4,8 @@ ghost use Rattle.std.specs.Arc.{arc_value};
 ghost use Rattle.crossbeam_queue.specs.Passes.{view, IsPassOf};
 ghost use Rattle.svc_mail.specs.Kept.{IsPoster};
 
-use crate::letter::{Full, Letter};
-use crate::note::Note;
+use crate::letter::{Letter, MailboxFull};
+use crate::note::MailboxNote;
 use crate::rule::{HearsTaken, MOST, Made, Mark, Posts, Queue};
 use std::alloc::{AllocError, Allocator, Global};
 use std::sync::{Arc, Wait};
@@ -94,7 +94,7 @@ impl<T: Copy, A: Allocator + Clone> Sender<T, A> {
     /// full. It knows of the other senders no more than it has seen, and it may believe that they filled the mailbox.
     ///
     /// The call needs no memory. It may wait, at any letter. After 2^62 letters of this sender it waits for ever.
-    pub fn post<R: Wait>(&mut self, rt: &R, item: T) -> Result<(), Full<T>>
+    pub fn post<R: Wait>(&mut self, rt: &R, item: T) -> Result<(), MailboxFull<T>>
         // If it succeeds, the item is the last one that this sender posted. It comes in the history of the mailbox
         // after all that the sender had seen of it. If it fails, nothing was posted, and the sender has seen no more.
         ensures same { IsSameSender self.old self.new }
@@ -125,22 +125,22 @@ impl<T: Copy, A: Allocator + Clone> Sender<T, A> {
                 self.next += 1;
                 Ok(())
             }
-            Err(letter) => Err(Full(letter.item)),
+            Err(letter) => Err(MailboxFull(letter.item)),
         }
     }
 
     /// Makes a note of what this sender has seen of the history: at least all of it up to its own last letter.
-    pub fn tell(&mut self) -> Note<T>
+    pub fn tell(&mut self) -> MailboxNote<T>
         ensures same { IsUnchangedSender self.old self.new }
         ensures home { note_home result ≡ home self.old }
         ensures history { history_in result ≡ seen_by self.old }
     {
-        Note::of(&self.queue, &mut self.mark)
+        MailboxNote::of(&self.queue, &mut self.mark)
     }
 
-    /// Learns the receiver's note: from now on `post` returns `Full` only if the box was full after the letters that
-    /// the note gives as taken.
-    pub fn learn(&mut self, note: Note<T>)
+    /// Learns the receiver's note: from now on `post` returns `MailboxFull` only if the box was full after the letters
+    /// that the note gives as taken.
+    pub fn learn(&mut self, note: MailboxNote<T>)
         requires { note_home note ≡ home self.old }
         ensures same { IsSameSender self.old self.new }
         ensures kept { (posted self.new ≡ posted self.old) × (seen_by self.new ≡ seen_by self.old) }

@@ -1,9 +1,13 @@
 //! How many processes of a service began and ended.
-ghost use Rattle.std.specs.Prelude.{◌≡◌};
-ghost use Rattle.svc_record.specs.Counts.{counts_text};
+ghost use Rattle.std.specs.Prelude.{◌≡◌, Some};
+ghost use Rattle.svc_record.specs.Counts.{IsCounts, IsCountsIn, counts_text};
+ghost use Rattle.svc_record.specs.declared.counts.Counts.{Counts};
 
+use crate::moment::before_newline;
+use crate::process::split_number;
 use arrayvec::ArrayString;
 use cmd_base::push_number;
+use sup_core::read_number;
 
 /// A line of at most 48 bytes.
 pub type CountsText = ArrayString<48>;
@@ -62,4 +66,26 @@ pub fn counts_text(counts: &Counts) -> CountsText
     push_number(&mut out, counts.deaths);
     out.push_str("\n");
     out
+}
+
+/// Returns the only counts that can have this line.
+#[tactic(auto, using(crate::proofs::Spaces::one_in_front))]
+fn counts_meant(line: &[u8]) -> Option<Counts>
+    ensures only { (counts : Counts) → IsCounts counts → line.now ≡ counts_text counts → result ≡ Some counts }
+{
+    let (starts, rest) = split_number(line)?;
+    let deaths = read_number(before_newline(rest)?)?;
+    Some(Counts { starts, deaths })
+}
+
+/// Reads counts from their line, with the newline. Returns None for any text that is not the line of counts.
+pub fn read_counts(line: &[u8]) -> Option<Counts>
+    ensures { IsCountsIn line.now result }
+{
+    let counts = counts_meant(line)?;
+    if counts_text(&counts).as_bytes() == line {
+        Some(counts)
+    } else {
+        None
+    }
 }

@@ -28,7 +28,7 @@ mod reading;
 mod stat;
 mod ticks;
 
-pub use counts::{Counts, CountsText, counts_text};
+pub use counts::{Counts, CountsText, counts_text, read_counts};
 pub use ending::{Ending, ending_of, signal_name};
 pub use exit::{Exit, ExitText, exit_text};
 pub use laws::{nobody_is_left, takes_up_its_own};

@@ -5,7 +5,7 @@ use std::io::Read;
 use std::marker::Model;
 use std::snapshot::Snapshot;
 use std::sync::Wait;
-use svc_mail::letter::Full;
+use svc_mail::letter::MailboxFull;
 use svc_mail::sender::Sender;
 use tai_status::Input;
 
@@ -152,7 +152,7 @@ impl<D: Read + Drop> Intake<D> {
                 self.kept = None;
                 IntakeTurn::Moved(count)
             }
-            Err(Full(_piece)) => IntakeTurn::Idle,
+            Err(MailboxFull(_piece)) => IntakeTurn::Idle,
         }
     }
 }

@@ -19,7 +19,7 @@ use crate::settings::{
     finish_seconds, is_late, kill_seconds, seconds_in,
 };
 use crate::surroundings::Surroundings;
-use crate::times::{Reading, present_tick, steady};
+use crate::times::{ClockReading, present_tick, steady};
 use cmd_base::SystemClock;
 use std::alloc::{AllocError, Global};
 use std::fs::File;
@@ -83,7 +83,7 @@ where
     notifier: Arc<Notifier, Global>,
     clock: SystemClock<R>,
     // What `now` gave last.
-    read: Option<Reading>,
+    read: Option<ClockReading>,
     slot: ChildSlot,
     death: DeathSource,
     ready: ReadySource,
@@ -508,7 +508,7 @@ where
     fn now(&mut self) -> Label {
         let label = self.clock.now();
         let time = self.runtime.monotonic().ok();
-        self.read = time.map(|time| Reading { label, time });
+        self.read = time.map(|time| ClockReading { label, time });
         label
     }
 

@@ -20,7 +20,7 @@ pub(crate) fn present_tick(now: Option<Duration>) -> u64
 
 /// A reading of the clock.
 #[derive(Clone, Copy, Debug, PartialEq, Eq)]
-pub(crate) struct Reading {
+pub(crate) struct ClockReading {
     /// What the clock gave.
     pub(crate) label: Label,
     /// The running clock at that time.
@@ -36,7 +36,7 @@ fn later(one: Label, other: Label) -> Label
 
 /// Returns this label, or that of an earlier reading and the whole seconds since then, if that is later. `now` is the
 /// running clock, which nobody sets.
-pub(crate) fn steady(label: Label, earlier: Option<Reading>, now: Option<Duration>) -> Label
+pub(crate) fn steady(label: Label, earlier: Option<ClockReading>, now: Option<Duration>) -> Label
     ensures { result ≡ steady label earlier now }
 {
     match (earlier, now) {

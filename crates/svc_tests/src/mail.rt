@@ -9,7 +9,7 @@ use std::sync::Wait;
 use std::test::Fail;
 use std::thread;
 use std::thread::Threads;
-use svc_mail::letter::{Full, Letter};
+use svc_mail::letter::{Letter, MailboxFull};
 use svc_mail::letters::Letters;
 use svc_mail::mailbox::Mailbox;
 use svc_mail::promise::{PostsThese, TakesThese};
@@ -89,7 +89,7 @@ fn each_growth_is_refused_in_turn(rt: HostRuntime) -> Result<(), Fail> {
         assert_eq!(rt; first.post(&rt, b'u'), Ok(()));
         assert_eq!(rt; first.post(&rt, b't'), Ok(()));
         assert_eq!(rt; second.post(&rt, b'd'), Ok(()));
-        assert_eq!(rt; first.post(&rt, b'k'), Err(Full(b'k')));
+        assert_eq!(rt; first.post(&rt, b'k'), Err(MailboxFull(b'k')));
         receiver.learn(second.tell());
         assert_eq!(rt; receiver.take(&rt), Some(letters[0]));
         first.learn(receiver.tell());
@@ -120,7 +120,7 @@ fn a_mailbox_of_64_refuses_the_65th_letter(rt: HostRuntime) -> Result<(), Fail> 
     for _letter in 0..64usize {
         assert_eq!(rt; first.post(&rt, b'u'), Ok(()));
     }
-    assert_eq!(rt; first.post(&rt, b'u'), Err(Full(b'u')));
+    assert_eq!(rt; first.post(&rt, b'u'), Err(MailboxFull(b'u')));
     Ok(())
 }
 

@@ -37,12 +37,12 @@ pub enum StampFault {
 
 /// A prefix of some bytes, up to their first newline or to their end.
 #[derive(Clone, Copy)]
-struct Part {
+struct LinePart {
     len: usize,
     ends: bool,
 }
 
-fn first_part(bytes: &[u8]) -> Part
+fn first_part(bytes: &[u8]) -> LinePart
     ensures front { take result.len bytes.now ≡ take_through 10 bytes.now }
     ensures within { result.len ≤ length bytes.now }
     ensures some { 0 < length bytes.now → 0 < result.len }
@@ -50,11 +50,11 @@ fn first_part(bytes: &[u8]) -> Part
         → is_inside inside (take_through 10 bytes.now) ≡ not result.ends }
 {
     match memchr(b'\n', bytes) {
-        Some(at) => Part {
+        Some(at) => LinePart {
             len: at + 1,
             ends: true,
         },
-        None => Part {
+        None => LinePart {
             len: bytes.len(),
             ends: false,
         },

@@ -3,7 +3,7 @@ use Rattle.std.proofs.Math.Logic.{∥∥₁_map}
 use Rattle.svc_house.specs.Mail.{posted_by}
 use Rattle.svc_door.specs.Connection.{HasPostedLast}
 use Rattle.svc_door.proofs.Posting.{posted-turn}
-use Rattle.svc_door.proofs.part.Part.hear.Goals as goal
+use Rattle.svc_door.proofs.part.DoorPart.hear.Goals as goal
 
 pub invariant_of-self-in-Some-next_look : goal.invariant_of-self-in-Some-next_look
 invariant_of-self-in-Some-next_look g c =

@@ -1,7 +1,7 @@
 use Rattle.std.proofs.Common.{inr, refl, subst}
 use Rattle.svc_house.specs.Mail.{posted_by}
 use Rattle.svc_door.specs.Turns.{HasTurn}
-use Rattle.svc_door.proofs.part.Part.serve.Goals as goal
+use Rattle.svc_door.proofs.part.DoorPart.serve.Goals as goal
 
 pub returns-in-Ok-clause-serves : goal.returns-in-Ok-clause-serves
 returns-in-Ok-clause-serves g c =

@@ -1,6 +1,6 @@
 use Rattle.svc_house.specs.Mail.{posted_by}
 use Rattle.svc_door.proofs.Posting.{posted-beginning}
-use Rattle.svc_door.proofs.part.Part.begin.Goals as goal
+use Rattle.svc_door.proofs.part.DoorPart.begin.Goals as goal
 
 pub invariant_of-self : goal.invariant_of-self
 invariant_of-self c = record {
