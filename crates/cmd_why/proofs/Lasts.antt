@@ -65,7 +65,7 @@ pub contains-last : {X : Type 0} (p : X → Bool) (xs : List X) (x : X) → last
 contains-last p [] x e = absurd (cc)
 contains-last p (y ∷ xs) x e = contains-step (list_any p xs) (p y) (last_such p xs) y x xs (contains-last p xs x) e
 
-is-byte : (event : Option Event) (byte : ℕ) → byte_in event ≡ Some byte → event ≡ Some (Byte byte)
+pub is-byte : (event : Option Event) (byte : ℕ) → byte_in event ≡ Some byte → event ≡ Some (Byte byte)
 is-byte None byte e = absurd (cc)
 is-byte (Some (Byte other)) byte e = let same : other ≡ byte = cc in ap (λ (b : ℕ). Some (Byte b)) same
 is-byte (Some (Started pid label)) byte e = absurd (cc)

@@ -1,3 +1,4 @@
 pub mod Columns
 pub mod Lasts
+pub mod Own
 pub mod Stretches

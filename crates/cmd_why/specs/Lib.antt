@@ -1,6 +1,7 @@
 pub mod Entries
 pub mod Facts
 pub mod LastEnd
+pub mod Laws
 pub mod Sentences
 pub mod Texts
 pub mod Timeline

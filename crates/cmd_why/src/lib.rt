@@ -9,6 +9,7 @@ mod courses;
 mod entries;
 mod facts;
 mod last_ends;
+mod laws;
 mod lines;
 mod sentences;
 mod sources;
@@ -22,6 +23,7 @@ pub use facts::{
     nanoseconds, reaches_back, recent_starts, unasked_starts,
 };
 pub use last_ends::{LastEnd, last_end};
+pub use laws::{ends_are_their_own, last_end_is_latest, names_the_last_signal};
 pub use lines::{
     Absence, Drawing, Picture, Standing, WhyFinding, absence_of, found_line, found_text,
 };
