@@ -4,4 +4,4 @@
 pub(crate) const KIT: &str = "rattle-kit-13b logic dac8208d650f15bf";
 
 /// The sum of its sources, as packaging/source-sum says it.
-pub(crate) const SOURCE: &str = "b560d6a894ea6c930d83d25deba7ecaf2cbef629bc99b0cdd56701d0d3904bec";
+pub(crate) const SOURCE: &str = "388a197b9491141762c6c3616d3dc829b3970fd9d98a8c94b10ee7c1c0eaf313";

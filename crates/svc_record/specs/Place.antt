@@ -1,6 +1,6 @@
 -- The place of a service: the process that was started last, or that one is about to be started, and what is wanted.
 use Rattle.std.specs.Prelude.{◌≡◌, ◌<◌, ◌+◌, ◌^◌, ◌==◌, ◌&&◌, ◌||◌, ℕ, Bool, true, false, not, if◌then◌else◌}
-use Rattle.std.specs.Prelude.{List, ◌++◌, ◌∷◌, codes}
+use Rattle.std.specs.Prelude.{List, ◌++◌, codes}
 use Rattle.std.specs.Prelude.{decimal, length, position, take, Option, Some, None}
 use Rattle.std.specs.Borrow.{Bor}
 use Rattle.tai_status.specs.declared.record.Want.{Want}
@@ -95,3 +95,13 @@ pub record AreOfOneRun (place here : Place) : Type 0 where
 -- whether the time and the session of the intended start are both unknown
 abbrev pub is_unknown : Place → Bool
 is_unknown place = (place.pid == 0) && ((place.tick == 1) && (place.session == 0))
+
+-- Law: what a place shows of a start. Its intent is seen until the process that it made is recorded, or it made none. An
+-- intended `finish` is seen until that has ended.
+pub record PlacesShowStarts : Type 0 where
+  pub intended : (place : Place) (tick session : ℕ) → 0 < tick → is_intent (intending place tick session) ≡ true
+  pub made : (place : Place) (tick session pid began : ℕ) → 0 < pid
+      → is_intent (occupied (intending place tick session) pid began) ≡ false
+  pub finishes : (place : Place) (tick session pid began : ℕ)
+      → is_intent (occupied (finishing place tick session) pid began) ≡ true
+  pub vacant : (place : Place) → is_intent (vacated place) ≡ false

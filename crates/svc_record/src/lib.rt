@@ -31,7 +31,7 @@ mod ticks;
 pub use counts::{Counts, CountsText, counts_text, read_counts};
 pub use ending::{Ending, ending_of, signal_name};
 pub use exit::{Exit, ExitText, exit_text};
-pub use laws::{nobody_is_left, takes_up_its_own};
+pub use laws::{nobody_is_left, places_show_starts, takes_up_its_own};
 pub use leftover::{Intent, Leftover, Seen, find_any_here, find_leftover, may_be_started};
 pub use moment::{Moment, before_newline, moment_in, moment_text};
 pub use opening::{Left, Opening};
