@@ -23,7 +23,6 @@ SECONDS = {
     "cmd_page": 236, "cmd_wait": 178, "svscan_rounds": 210, "cmd_svscan": 690, "dtools": 690,
 }
 
-
 # How much of the memory that the kit expects of a proof it takes, measured: about half. Several jobs share most of it.
 HELD = 0.5
 
