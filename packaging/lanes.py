@@ -14,17 +14,15 @@ from concurrent.futures import FIRST_COMPLETED, ThreadPoolExecutor, wait
 
 # Processor seconds of each crate's proof, by one job; of one that is not here its lines say.
 SECONDS = {
-    "tai_status": 227, "sup_core": 265, "star_match": 74, "mlog_script": 233, "mlog_files": 125, "mlog_line": 123,
-    "mlog_core": 132, "svc_mail": 142, "sup_trace": 150, "svc_station": 195, "svc_house": 170, "env_title": 156,
-    "scan_table": 322, "suite_lines": 134, "suite_core": 234, "svc_relay": 87, "trace_words": 75, "cmd_base": 74,
-    "svc_record": 192, "svc_places": 104, "svc_client": 106, "svc_world": 206, "svc_system": 330, "svc_door": 199,
-    "svc_host": 730, "svc_maker": 330, "cmd_sim": 191, "cmd_trace": 181, "cmd_filters": 54, "cmd_help": 31,
-    "cmd_envdir": 410, "cmd_multilog": 395, "cmd_svc": 237, "cmd_local": 131, "cmd_why": 397, "cmd_report": 229,
-    "cmd_page": 236, "cmd_wait": 178, "svscan_rounds": 210, "cmd_svscan": 690, "dtools": 690,
+    "tai_status": 142, "sup_core": 204, "star_match": 40, "mlog_script": 163, "mlog_files": 81,
+    "mlog_line": 82, "mlog_core": 119, "svc_mail": 91, "sup_trace": 142, "svc_station": 171, "svc_house": 117,
+    "env_title": 101, "scan_table": 281, "suite_lines": 115, "suite_core": 184, "svc_relay": 43,
+    "trace_words": 40, "cmd_base": 23, "svc_record": 108, "svc_places": 20, "svc_client": 80, "svc_world": 205, "svc_system": 160,
+    "svc_door": 98, "svc_host": 449, "svc_maker": 260, "cmd_sim": 109, "cmd_trace": 100, "cmd_filters": 30, "cmd_help": 27,
+    "cmd_envdir": 181, "cmd_multilog": 278, "cmd_svc": 120, "cmd_local": 113, "cmd_why": 339,
+    "cmd_report": 152, "cmd_page": 200, "cmd_wait": 63, "svscan_rounds": 130, "cmd_svscan": 430,
+    "dtools": 280,
 }
-
-# How much of the memory that the kit expects of a proof it takes, measured: about half. Several jobs share most of it.
-HELD = 0.5
 
 
 def load(path):
@@ -56,7 +54,6 @@ def in_lanes(tasks):
             work = sum(takes[key] for key in left) or 1
             for key in [it for it in left if all(below in given for below in tasks[it][0])]:
                 _, _, needs, call = tasks[key]
-                needs *= HELD
                 idle = processors - sum(jobs for _, _, jobs in running.values())
                 room = memory - sum(held for _, held, _ in running.values())
                 if idle > 0 and (not running or needs <= room):
