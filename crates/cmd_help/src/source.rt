@@ -4,4 +4,4 @@
 pub(crate) const KIT: &str = "rattle-kit-13b logic dac8208d650f15bf";
 
 /// The sum of its sources, as packaging/source-sum says it.
-pub(crate) const SOURCE: &str = "388a197b9491141762c6c3616d3dc829b3970fd9d98a8c94b10ee7c1c0eaf313";
+pub(crate) const SOURCE: &str = "490dba8956b2e7d8181225e24fc4a7372c313db7fe39dc989bbad5d1126dcf3c";

@@ -1,21 +1,21 @@
 //! What is true for the definitions alone. The functions here do nothing: their contracts are the laws.
 ghost use Rattle.cmd_why.specs.Laws.{EndsAreTheirOwn, LastEndIsLatest, NamesEachSignal, NamesTheLastSignal};
 
-/// States that the signal which is named of a running process is that of the last control byte with a signal since its
-/// start. If none is named, there was none.
+/// States that `why` names the signal of the last control byte with a signal since the start of a process. If it names
+/// none, there was none.
 pub fn names_the_last_signal()
     ensures last { NamesTheLastSignal }
     ensures none { NamesEachSignal }
 {}
 
-/// States that no end which the trace or the file `exit` has is later than the last end that is reported.
+/// States that neither the trace nor a line of the file `exit` has an end that is later than the last end.
 #[tactic(auto, using(crate::proofs::Own::latest))]
 pub fn last_end_is_latest()
     ensures { LastEndIsLatest }
 {}
 
-/// States that the status or signal which is reported of a process is that of this process: the file `exit` has its
-/// number and the time of its end.
+/// States that `why` reports the status or signal of a process only if the file `exit` has the number of this process
+/// and the time of its end.
 #[tactic(auto, using(crate::proofs::Own::their_own))]
 pub fn ends_are_their_own()
     ensures { EndsAreTheirOwn }
